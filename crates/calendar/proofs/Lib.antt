@@ -1,8 +1,7 @@
-pub mod Table
+pub mod Upto
 pub mod Tabled
 pub mod Days
-pub mod Upto
 pub mod Direct
 pub mod Dates
-pub mod Offsets
 pub mod Weeks
+pub mod Offsets

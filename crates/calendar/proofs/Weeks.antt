@@ -1,27 +1,42 @@
--- ISO weeks: the Thursdays of a year, counted, are a quotient.
+-- Weekdays and ISO weeks: where a number lies in its year, and that the Thursdays of a year, counted, are a quotient.
 -- Assumes nothing.
 use mathlib.Core.Path.{_≡_, refl, ap, sym, _∙_, subst}
-use mathlib.Core.Bool.{Bool, true, false, cond}
-use Prim.Native.Nat.{ℕ, zero, suc, _+_, _*_, _-_, _/_, _%_, _≤_, _<_}
+use Prim.Native.Nat.{ℕ, zero, suc, _+_, _-_, _/_, _%_, _≤_, _<_}
 use native.Mathlib.Decide.{ℕ-discrete}
 use native.Mathlib.Omega.{arith}
 use borrow.Author.Tests.{eq-eqb, ne-eqb}
-use Rattle.calendar.specs.Calendar.{leap, beforeMonth, beforeYear, yearLength, ordinal, dayNumber, Valid, dateOf, weekday, thursdays, thursdayOf, isoWeek}
+use Rattle.calendar.specs.Calendar.{leap, monthLength, beforeMonth, beforeYear, yearLength, ordinal, dayNumber, Valid, dateOf, weekday, thursdays, thursdayOf, isoWeek}
 use Rattle.calendar.specs.Parts.{Settled}
 use Rattle.calendar.specs.declared.Date.{Date}
 use Rattle.calendar.proofs.Days.{earlier-year, in-year, year-suc, year-low, years-low}
 use Rattle.calendar.proofs.Dates.{dateOf-valid, number-dateOf}
 
--- the year and the day of the year of a number's date
-pub settled : (n : ℕ) → 1 ≤ n → Settled n (dateOf n .year) (ordinal (dateOf n))
+-- 1 January of the year 1 is a Monday
+pub first-monday : weekday (dayNumber (record { year = 1; month = 1; day = 1 })) ≡ 0
+unfolding weekday dayNumber ordinal beforeYear yearLength leap beforeMonth monthLength
+first-monday = refl
+
+-- and the weekdays follow each other
+pub weekday-next : (n : ℕ) → weekday (n + 1) ≡ (weekday n + 1) % 7
+unfolding weekday
+weekday-next n = omega arith
+
+-- a date's year, and its day of the year, are those of its number
+pub of-date : (d : Date) → Valid d → Settled (dayNumber d) (d .year) (ordinal d)
 unfolding dayNumber ordinal
-settled n h =
+of-date d v =
     record {
-      counted = number-dateOf n;
-      low = omega (arith, dateOf-valid n h .day-low);
-      high = in-year (leap (dateOf n .year)) (dateOf n .month) (dateOf n .day) (dateOf-valid n h .month-high) (dateOf-valid n h .day-high);
+      counted = refl;
+      low = omega (arith, v .day-low);
+      high = in-year (leap (d .year)) (d .month) (d .day) (v .month-high) (v .day-high);
     }
 
+-- and so are those of the date that a number has
+pub settled : (n : ℕ) → 1 ≤ n → Settled n (dateOf n .year) (ordinal (dateOf n))
+settled n h =
+    subst (λ (k : ℕ). Settled k (dateOf n .year) (ordinal (dateOf n))) (number-dateOf n) (of-date (dateOf n) (dateOf-valid n h))
+
+-- no number is in two years, nor is it two days of one
 not-before : {n y z o p : ℕ} → Settled n y o → Settled n z p → y < z → ⊥
 not-before {n} {y} {z} {o} {p} s t h = omega (arith, earlier-year y z o p h (s .high) (t .low), s .counted, t .counted)
 
@@ -42,13 +57,16 @@ counted y (suc k) = by-cases (counted y k) (ℕ-discrete ((beforeYear y + suc k 
     by-cases r (yes e) = simp (eq-eqb _ _ e) (omega arith)
     by-cases r (no f) = simp (ne-eqb _ _ f) (omega arith)
 
+-- on a Thursday the quotient is that of the day of the year
 thursday : (b o k : ℕ) → (b + o + 4) % 7 ≡ 3 → k + (b + 1) / 7 ≡ (b + o + 1) / 7 → k ≡ (o + 6) / 7
 thursday b o k h e = omega arith
 
+-- there are seven weekdays
 pub weekday-low : (n : ℕ) → weekday n < 7
 unfolding weekday
 weekday-low n = omega arith
 
+-- the day that the definition names is a Thursday
 on-thursday : (n : ℕ) → 4 ≤ n → (n + 3 - weekday n + 4) % 7 ≡ 3
 unfolding weekday
 on-thursday n h = omega arith
@@ -65,6 +83,7 @@ week-is {n} {y} {o} h s =
     there : thursdays (dateOf (n + 3 - weekday n) .year) (ordinal (dateOf (n + 3 - weekday n))) ≡ thursdays y o
     there = cc (one-year t s, one-day t s)
 
+-- the Thursday lies in the year before, in the day's own or in the next
 module _ (n y d : ℕ) (s : Settled n y d) (h : 1 ≤ y) where
   late : 4 ≤ n
   late = omega (arith, years-low y, s .counted)

@@ -1,10 +1,9 @@
 -- The proleptic Gregorian calendar. Days are counted from 1 January of the year 0, which is day 1.
 -- Assumes nothing.
-use Prim.Native.Nat.{ℕ, zero, suc, _+_, _*_, _-_, _/_, _%_, _≤_, _<_}
-use mathlib.Core.Bool.{Bool, true, false, not, cond}
-use mathlib.Core.List.{List, [], _∷_}
-use mathlib.Core.Path.{_≡_, refl}
-use lib.Dec.{eqb, leb, ltb, T}
+use Prim.Native.Nat.{ℕ, zero, suc, _+_, _-_, _%_, _≤_}
+use mathlib.Core.Bool.{Bool, cond}
+use mathlib.Core.List.{[], _∷_}
+use lib.Dec.{eqb, ltb}
 use lib.ListN.{getD}
 use Rattle.calendar.specs.declared.Date.{Date}
 
@@ -12,7 +11,7 @@ use Rattle.calendar.specs.declared.Date.{Date}
 unfoldable pub leap : ℕ → Bool
 leap y = cond (eqb (y % 100) 0) (eqb (y % 400) 0) (eqb (y % 4) 0)
 
--- the days of a month, 1 to 12, of a leap year or a common year
+-- the days of a month, 1 to 12, of a leap year or a common year (and 0 of any other)
 unfoldable pub monthLength : Bool → ℕ → ℕ
 monthLength l m = getD (0 ∷ 31 ∷ cond l 29 28 ∷ 31 ∷ 30 ∷ 31 ∷ 30 ∷ 31 ∷ 31 ∷ 30 ∷ 31 ∷ 30 ∷ 31 ∷ []) m 0
 
@@ -21,6 +20,7 @@ unfoldable pub beforeMonth : Bool → ℕ → ℕ
 beforeMonth l zero = 0
 beforeMonth l (suc m) = beforeMonth l m + monthLength l m
 
+-- the days of a leap year, or of a common one
 unfoldable pub yearLength : Bool → ℕ
 yearLength l = cond l 366 365
 
@@ -33,7 +33,7 @@ beforeYear (suc y) = beforeYear y + yearLength (leap y)
 unfoldable pub ordinal : Date → ℕ
 ordinal d = beforeMonth (leap (d .year)) (d .month) + d .day
 
--- the number of a date
+-- the number of a date: the days of the years before, of the months before, and its own
 unfoldable pub dayNumber : Date → ℕ
 dayNumber d = beforeYear (d .year) + ordinal d
 
@@ -58,7 +58,7 @@ unfoldable pub dateOf : ℕ → Date
 dateOf zero = record { year = 0; month = 1; day = 0 }
 dateOf (suc n) = next (dateOf n)
 
--- 0 Monday to 6 Sunday
+-- 0 Monday to 6 Sunday, in turn; 1 January of the year 1 is a Monday
 unfoldable pub weekday : ℕ → ℕ
 weekday n = (n + 4) % 7
 
@@ -74,14 +74,3 @@ thursdayOf n = dateOf (n + 3 - weekday n)
 -- ISO 8601: a week belongs to the year that has its Thursday, and its number is how many Thursdays that year has had
 unfoldable pub isoWeek : ℕ → ℕ
 isoWeek n = thursdays (thursdayOf n .year) (ordinal (thursdayOf n))
-
-date : ℕ → ℕ → ℕ → Date
-date y m d = record { year = y; month = m; day = d }
-
-first-monday : weekday (dayNumber (date 1 1 1)) ≡ 0
-unfolding weekday dayNumber ordinal beforeYear yearLength leap beforeMonth monthLength date
-first-monday = refl
-
-spike-day : dayNumber (date 2026 11 15) ≡ 740301
-unfolding dayNumber ordinal beforeYear yearLength leap beforeMonth monthLength date
-spike-day = refl

@@ -1,4 +1,5 @@
--- What the parts of the way from a number to a date give.
+-- The steps from a number to its date: the year and the day of it, then the month.
+-- Assumes nothing.
 use Prim.Native.Nat.{ℕ, _+_, _≤_, _<_}
 use mathlib.Core.Bool.{Bool}
 use mathlib.Core.Path.{_≡_}

@@ -1,7 +1,7 @@
-// The Gregorian calendar.
+// The proleptic Gregorian calendar. A day's number counts from 1 January of the year 0, which is day 1.
 ghost use mathlib.Core.Path.{_≡_};
-ghost use Prim.Native.Nat.{ℕ, _+_, _-_, _≤_, _<_};
-ghost use Rattle.calendar.specs.Calendar.{leap, monthLength, beforeMonth, beforeYear, yearLength, ordinal, dayNumber, Valid, dateOf, weekday, isoWeek};
+ghost use Prim.Native.Nat.{_+_, _-_, _≤_, _<_};
+ghost use Rattle.calendar.specs.Calendar.{leap, monthLength, beforeMonth, beforeYear, yearLength, dayNumber, dateOf, weekday, isoWeek};
 ghost use lib.IntN.{natAbs};
 ghost use Rattle.calendar.specs.Moved.{moved, movedBack};
 ghost use Rattle.calendar.specs.Parts.{Settled, InMonth};
@@ -16,6 +16,7 @@ pub fn is_leap(y: u32) -> bool
     }
 }
 
+// The days of each month, and the days before it, at the month's own number.
 const LENGTH_COMMON: [u32; 13] = [0, 31, 28, 31, 30, 31, 30, 31, 31, 30, 31, 30, 31];
 
 const LENGTH_LEAP: [u32; 13] = [0, 31, 29, 31, 30, 31, 30, 31, 31, 30, 31, 30, 31];
@@ -84,6 +85,7 @@ pub fn year_length(y: u32) -> u32
     if is_leap(y) { 366 } else { 365 }
 }
 
+// The days of the years before y.
 pub fn before_year(y: u32) -> u32
     requires { ⌜ y ≤ 12010 ⌝ }
     ensures { λ r. ⌜ r ≡ beforeYear y ⌝ }
@@ -108,12 +110,13 @@ pub fn day_number(d: Date) -> u32
     before_year(d.year) + before_month(is_leap(d.year), d.month) + d.day
 }
 
-// A year and a day of it, from a day that is counted on from the year's start.
+// A year and a day of it, from 1.
 pub struct YearDay {
     pub year: u32,
     pub day: u32,
 }
 
+// The year that a day falls into, and its day there, from a year and a day counted on from that year's start.
 pub fn settle(y: u32, rest: u32) -> YearDay
     requires { ⌜ (1 ≤ rest) × (y ≤ 100000) × (rest ≤ 100000000) ⌝ }
     ensures { λ r. ⌜ Settled (beforeYear y + rest) (r .year) (r .day) ⌝ }
@@ -142,6 +145,7 @@ pub fn month_of(leap: bool, day: u32) -> u32
     m
 }
 
+// The date with a number.
 pub fn date_of(n: u32) -> Date
     requires { ⌜ (1 ≤ n) × (n ≤ 100000000) ⌝ }
     ensures { λ r. ⌜ r ≡ dateOf n ⌝ }
@@ -156,6 +160,7 @@ pub fn date_of(n: u32) -> Date
     }
 }
 
+// The number of the day that lies a signed offset after day n.
 pub fn later(n: u32, off: i32) -> u32
     requires { ⌜ (366 < n) × (n < 10000000) × (natAbs off ≤ 366) ⌝ }
     ensures { λ r. ⌜ r ≡ moved n off ⌝ }
@@ -163,6 +168,7 @@ pub fn later(n: u32, off: i32) -> u32
     ((n as i32) + off) as u32
 }
 
+// The number of the day that lies a signed offset before day n.
 pub fn earlier(n: u32, off: i32) -> u32
     requires { ⌜ (366 < n) × (n < 10000000) × (natAbs off ≤ 366) ⌝ }
     ensures { λ r. ⌜ r ≡ movedBack n off ⌝ }
@@ -170,6 +176,7 @@ pub fn earlier(n: u32, off: i32) -> u32
     ((n as i32) - off) as u32
 }
 
+// 0 is Monday, 6 Sunday.
 pub fn weekday_of(n: u32) -> u32
     requires { ⌜ n < 10000000 ⌝ }
     ensures { λ r. ⌜ r ≡ weekday n ⌝ }
@@ -177,7 +184,7 @@ pub fn weekday_of(n: u32) -> u32
     (n + 4) % 7
 }
 
-// The ISO week of day n, which is day `day` of year `year`.
+// The ISO week of day n, which is day `day` of `year`: that of its week's Thursday, in the year before, in this one or in the next.
 pub fn iso_week(n: u32, year: u32, day: u32) -> u32
     requires { ⌜ Settled n year day × (1 ≤ year) × (year ≤ 100000) × (n < 10000000) ⌝ }
     ensures { λ r. ⌜ r ≡ isoWeek n ⌝ }

@@ -1,4 +1,5 @@
--- All that the filters ask of a day, as a function of its number.
+-- A day, as a function of its number: its date and all else that the filters ask of it.
+-- Assumes nothing.
 use Prim.Native.Nat.{ℕ}
 use Rattle.calendar.specs.Calendar.{leap, monthLength, ordinal, dateOf, weekday, isoWeek}
 use Rattle.days.specs.declared.Day.{Day}

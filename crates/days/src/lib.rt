@@ -1,12 +1,13 @@
-// A day, with all that the filters ask of it.
+// A day by value, with all that the filters ask of it, so that it is worked out once.
 ghost use mathlib.Core.Path.{_≡_};
-ghost use Prim.Native.Nat.{_+_, _*_, _≤_, _<_};
+ghost use Prim.Native.Nat.{_+_, _-_, _≤_, _<_};
 ghost use lib.IntN.{natAbs};
-ghost use Rattle.calendar.specs.Calendar.{dateOf};
+ghost use Rattle.calendar.specs.Calendar.{Valid, dayNumber};
 ghost use Rattle.calendar.specs.Parts.{Settled};
 ghost use Rattle.calendar.specs.Moved.{movedBack};
 ghost use Rattle.days.specs.DayOf.{dayOf};
 
+// The number counts from 0000-01-01 = 1, the ordinal is the day of the year, the length is its month's, the week the ISO week.
 pub struct Day {
     pub number: u32,
     pub year: u32,
@@ -19,7 +20,7 @@ pub struct Day {
 }
 
 // The day of number n, which is day `ordinal` of `year`.
-pub fn day_in(n: u32, year: u32, ordinal: u32) -> Day
+fn day_in(n: u32, year: u32, ordinal: u32) -> Day
     requires { ⌜ Settled n year ordinal × (1 ≤ year) × (year ≤ 100000) × (n < 10000000) ⌝ }
     ensures { λ r. ⌜ r ≡ dayOf n ⌝ }
 {
@@ -41,8 +42,21 @@ pub fn day_in(n: u32, year: u32, ordinal: u32) -> Day
     }
 }
 
+// The day of a date.
+pub fn day_on(date: calendar::Date) -> Day
+    requires { ⌜ Valid date × (1 ≤ date .year) × (date .year ≤ 12010) ⌝ }
+    ensures { λ r. ⌜ r ≡ dayOf (dayNumber date) ⌝ }
+{
+    let ordinal = calendar::before_month(calendar::is_leap(date.year), date.month) + date.day;
+    day_in(
+        calendar::before_year(date.year) + ordinal,
+        date.year,
+        ordinal,
+    )
+}
+
 // The year and its day of day n, from those of a day that is at most 366 later.
-pub fn near(n: u32, number: u32, year: u32, ordinal: u32) -> calendar::YearDay
+fn settle_near(n: u32, number: u32, year: u32, ordinal: u32) -> calendar::YearDay
     requires { ⌜ Settled number year ordinal × (2 ≤ year) × (year ≤ 90000) × (number ≤ n + 366) × (1 ≤ n) × (n < 10000000) ⌝ }
     ensures { λ r. ⌜ Settled n (r .year) (r .day) ⌝ }
 {
@@ -52,12 +66,20 @@ pub fn near(n: u32, number: u32, year: u32, ordinal: u32) -> calendar::YearDay
     calendar::settle(base, first + second + ordinal + n - number)
 }
 
-// The day that lies an offset before d.
+// The day that lies a signed offset before d. From day 733 on, what lies 366 days before is still in the year 1.
 pub fn back(d: Day, off: i32) -> Day
-    requires { ⌜ (d ≡ dayOf (d .number)) × (2000 ≤ d .number) × (d .number < 5000000) × (natAbs off ≤ 366) ⌝ }
+    requires { ⌜ (d ≡ dayOf (d .number)) × (733 ≤ d .number) × (d .number < 5000000) × (natAbs off ≤ 366) ⌝ }
     ensures { λ r. ⌜ r ≡ dayOf (movedBack (d .number) off) ⌝ }
 {
     let n = calendar::earlier(d.number, off);
-    let at = near(n, d.number, d.year, d.ordinal);
+    let at = settle_near(n, d.number, d.year, d.ordinal);
     day_in(n, at.year, at.day)
+}
+
+// Yesterday.
+pub fn day_before(d: Day) -> Day
+    requires { ⌜ (d ≡ dayOf (d .number)) × (733 ≤ d .number) × (d .number < 5000000) ⌝ }
+    ensures { λ r. ⌜ r ≡ dayOf (d .number - 1) ⌝ }
+{
+    back(d, 1)
 }

@@ -1,4 +1,4 @@
-// Easter Sunday.
+// Easter Sunday, by the anonymous Gregorian formula.
 ghost use mathlib.Core.Path.{_≡_};
 ghost use Prim.Native.Nat.{_≤_};
 ghost use Rattle.calendar.specs.Calendar.{dateOf};

@@ -12,9 +12,20 @@ pub enum Operator {
 
 // One of three forms of a date; weekday 0 is Monday.
 pub enum Date {
-    Fixed { year: u16, month: u8, day: u8 },
-    Weekday { year: u16, month: u8, weekday: u8, nth: i16 },
-    Easter { year: u16 },
+    Fixed {
+        year: u16,
+        month: u8,
+        day: u8,
+    },
+    Weekday {
+        year: u16,
+        month: u8,
+        weekday: u8,
+        nth: i16,
+    },
+    Easter {
+        year: u16,
+    },
 }
 
 pub struct DateOffset {
@@ -47,8 +58,17 @@ pub struct WeekItem {
 
 // The nth flags are five bits, index 0 the highest.
 pub enum WeekdayRange {
-    Fixed { start: u8, end: u8, from_start: u8, from_end: u8, offset: i16 },
-    Holiday { school: bool, offset: i16 },
+    Fixed {
+        start: u8,
+        end: u8,
+        from_start: u8,
+        from_end: u8,
+        offset: i16,
+    },
+    Holiday {
+        school: bool,
+        offset: i16,
+    },
 }
 
 pub struct WeekdayItem {
@@ -92,11 +112,29 @@ pub struct Sheet {
 pub fn no_rule() -> Rule
     ensures { λ r. ⌜ r ≡ noRule ⌝ }
 {
-    let year = YearItem { start: 0, end: 0, step: 0 };
-    let monthday = MonthdayItem { form: Monthday::Months { start: 0, end: 0 } };
-    let week = WeekItem { start: 0, end: 0, step: 0 };
-    let weekday = WeekdayItem { form: WeekdayRange::Holiday { school: false, offset: 0 } };
-    let span = TimeSpan { start: Time::Fixed(0), end: Time::Fixed(0) };
+    let year = YearItem {
+        start: 0,
+        end: 0,
+        step: 0,
+    };
+    let monthday = MonthdayItem {
+        form: Monthday::Months { start: 0, end: 0 },
+    };
+    let week = WeekItem {
+        start: 0,
+        end: 0,
+        step: 0,
+    };
+    let weekday = WeekdayItem {
+        form: WeekdayRange::Holiday {
+            school: false,
+            offset: 0,
+        },
+    };
+    let span = TimeSpan {
+        start: Time::Fixed(0),
+        end: Time::Fixed(0),
+    };
     Rule {
         operator: Operator::Normal,
         kind: 0,

@@ -1,7 +1,9 @@
+-- `calendar::before_month` meets its contract: each table holds the running sums of the month lengths, by one test over it.
+-- Assumes nothing.
 use borrow.Author.Needs.{needs}
-use mathlib.Core.Bool.{Bool, true, false}
+use mathlib.Core.Bool.{true, false}
 use mathlib.Core.List.{List, [], _∷_}
-use mathlib.Core.Path.{_≡_, ap, sym, _∙_}
+use mathlib.Core.Path.{_≡_}
 use Prim.Native.Nat.{ℕ, _<_}
 use lib.ListN.{getD}
 use Rattle.calendar.specs.Calendar.{beforeMonth, monthLength}

@@ -1,4 +1,5 @@
-use mathlib.Core.Bool.{cond}
+-- `calendar::is_leap` meets its contract: each arm is one case of the rule.
+-- Assumes nothing.
 use borrow.Author.Tests.{eq-eqb, ne-eqb}
 use Rattle.calendar.specs.Calendar.{leap}
 use Rattle.calendar.proofs.is_leap.Statement.{statement}

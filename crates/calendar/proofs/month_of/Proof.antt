@@ -1,15 +1,12 @@
-use mathlib.Core.Path.{_≡_, refl, ap, sym, _∙_}
-use Prim.Native.Nat.{ℕ, _+_, _≤_, _<_, _-_}
+-- `calendar::month_of` meets its contract: the loop stops at the first month that the day does not lie behind; it has days left, so that is no later than December.
+-- Assumes nothing.
+use Prim.Native.Nat.{_≤_, _<_, _-_}
 use native.Mathlib.Omega.{arith}
 use borrow.Author.Needs.{needs}
-use native.Mathlib.Decide.{ℕ-discrete}
-use Rattle.calendar.specs.Calendar.{beforeMonth, yearLength}
+use Rattle.calendar.specs.Calendar.{beforeMonth}
 use Rattle.calendar.proofs.Days.{not-last, no-month}
 use Rattle.calendar.proofs.month_of.Statement.{statement}
 use Rattle.calendar.proofs.month_of.Tie as tie
-use Rattle.calendar.proofs.month_of.Reads as reads
-use Rattle.calendar.proofs.month_of.Lts as lts
-use Rattle.calendar.proofs.before_month.Reads as before-month-reads
 
 abbrev Inv-loop : tie.InvT-loop
 Inv-loop leap day m₀ m = (1 ≤ m) × (m ≤ 12) × (beforeMonth leap m < day)
@@ -17,22 +14,19 @@ Inv-loop leap day m₀ m = (1 ≤ m) × (m ≤ 12) × (beforeMonth leap m < day)
 abbrev μ-loop : tie.MeasureT-loop
 μ-loop leap day m₀ m = 12 - m
 
--- src/lib.rt:89:5
 loop-holds : tie.Need-loop-holds Inv-loop μ-loop
 loop-holds c = (search needs, search needs, omega (arith, no-month (c .args .leap)))
 
--- src/lib.rt:89:30
 add-before-month : tie.Need-add-before-month Inv-loop μ-loop
 add-before-month c = search needs
 
--- src/lib.rt:89:11
 before-month-requires : tie.Need-before-month-requires Inv-loop μ-loop
 before-month-requires c κs = search needs
 
--- src/lib.rt:90:9
 add-m : tie.Need-add-m Inv-loop μ-loop
 add-m c = search needs
 
+-- a turn is taken only while the month is not the last
 more : (c : tie.Then1 Inv-loop μ-loop) → c .before .before .loop .m < 12
 more c =
     not-last (c .before .before .before .args .leap) (c .before .before .before .args .day) (c .before .before .loop .m) (search needs)
@@ -42,11 +36,9 @@ more c =
 loop-less : tie.Need-loop-less Inv-loop μ-loop
 loop-less c = omega (arith, more c)
 
--- src/lib.rt:89:5
 loop-again : tie.Need-loop-again Inv-loop μ-loop
 loop-again c = omega (arith, more c, c .before .before-month .ensures)
 
--- src/lib.rt:84:1
 returns : tie.Need-returns Inv-loop μ-loop
 returns c = search needs
 

@@ -1,0 +1,5 @@
+pub mod Plans
+pub mod Passing
+pub mod Joining
+pub mod Moves
+pub mod Planning

@@ -1,0 +1,12 @@
+pub mod Cases
+pub mod Lists
+pub mod Points
+pub mod Orders
+pub mod States
+pub mod Builds
+pub mod Runs
+pub mod Closing
+pub mod Validity
+pub mod WordLaws
+pub mod Copies
+pub mod Examples

@@ -1,0 +1,6 @@
+pub mod Range
+pub mod States
+pub mod Insertion
+pub mod Build
+pub mod Closed
+pub mod Words

@@ -1,0 +1,10 @@
+pub mod Days
+pub mod Likeness
+pub mod Minutes
+pub mod Shut
+pub mod Additions
+pub mod Fairness
+pub mod RangesAgree
+pub mod Labels
+pub mod Refusals
+pub mod Unique

@@ -1,0 +1,5 @@
+pub mod Ruled
+pub mod Operators
+pub mod Reading
+pub mod Ranging
+pub mod Agreement

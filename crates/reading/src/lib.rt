@@ -1,0 +1,1 @@
+// Definitions and theorems only: the minute reading of a day, the range reading, and that they agree.

@@ -1,0 +1,4 @@
+pub mod Listed
+pub mod RuleAt
+pub mod Reading
+pub mod Limits

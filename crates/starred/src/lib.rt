@@ -1,0 +1,1 @@
+// The starred examples of the rules: no code, one list and its theorem.

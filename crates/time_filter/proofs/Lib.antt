@@ -1,0 +1,5 @@
+pub mod Judging
+pub mod Rows
+pub mod Filling
+pub mod Covers
+pub mod Examples

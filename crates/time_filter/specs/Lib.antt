@@ -1,0 +1,3 @@
+pub mod Spans
+pub mod Cuts
+pub mod Refusal
