@@ -1,4 +1,4 @@
--- The paper's examples of dates on a year. The days before 2021 come from the direct count, so that nothing long is computed.
+-- The rules' examples of dates on a year. The days before 2021 come from the direct count, so that nothing long is computed.
 -- Assumes nothing.
 use mathlib.Core.Path.{_≡_, refl, sym, _∙_}
 use Prim.Native.Nat.{_+_}

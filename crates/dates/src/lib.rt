@@ -5,7 +5,7 @@ ghost use Rattle.dates.specs.Answers.{lengthAnswer, weekdayAnswer, weekA
 use calendar::Date;
 use days::Day;
 
-// A refusal has document 01's number and a place, here always 7 and 0.
+// A refusal has its number and a place, here always 7 and 0.
 pub enum Answer {
     Is(u32),
     Refused(u8, u32),

@@ -1,4 +1,4 @@
--- The plain search gives what the paper's kept bounds and pairs give: no drop changes which interval decides.
+-- The plain search gives what the rules' kept bounds and pairs give: no drop changes which interval decides.
 -- Assumes nothing.
 use mathlib.Core.Path.{_≡_, refl, sym, _∙_}
 use mathlib.Core.Bool.{Bool, true, false, cond}
@@ -21,7 +21,7 @@ pass : (last x : ℕ) (xs : List ℕ) → x ≤ last → rising last (x ∷ xs) 
 unfolding rising
 pass last x xs h = simp (le-ltb last x h)
 
--- the end that the paper gives a start
+-- the end that the rules give a start
 least : ℕ → List ℕ → ℕ
 least s es = firstLeft (dropBelow s es)
 
@@ -170,7 +170,7 @@ no-starts : (n : ℕ) (es : List ℕ) → plain n false [] es ≡ cond (leb n (f
 unfolding plain
 no-starts n es = refl
 
--- what the code computes is what the paper says
+-- what the code computes is what the rules say
 pub same : (n : ℕ) → 1 ≤ n → n ≤ lastDay → (ss es : List ℕ) → plain n false ss es ≡ decides n (intervals ss es)
 unfolding intervals joined rising
 same n h i [] es = no-starts n es ∙ ends-only n h es

@@ -1,4 +1,4 @@
--- Document 01's two worked additions, by computing the definitions.
+-- The two worked additions of the rules, by computing the definitions.
 use mathlib.Core.Path.{_≡_, refl}
 use mathlib.Core.List.{[], _∷_}
 use Prim.Native.Nat.{ℕ}

@@ -310,7 +310,7 @@ module _ (s : List ℕ) where
         rules = record { good = λ (i : ℕ) (j : i < 0). absurd (omega arith); rest = λ (i : ℕ) (j : 0 ≤ i). empty 32 noRule i };
       }
 
-  -- what is read keeps to document 01's ranges
+  -- what is read keeps to the ranges of the rules
   pub reading-ok : SheetOk (reading s .item)
   unfolding reading
   reading-ok = by (filled s (sheetAt s .place)) refl

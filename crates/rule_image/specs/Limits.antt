@@ -1,4 +1,4 @@
--- What every item of a read sheet keeps to: document 01's ranges, as the filters may rely on them.
+-- What every item of a read sheet keeps to: the ranges of the rules, as the filters may rely on them.
 use Prim.Native.Nat.{ℕ, _≤_, _<_}
 use mathlib.Core.Path.{_≡_}
 use mathlib.Core.List.{List}

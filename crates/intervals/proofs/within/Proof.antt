@@ -1,4 +1,4 @@
--- The loop: what the search says of the starts left is what it says of all. Each return is a step of the search, and the search is the paper's rule.
+-- The loop: what the search says of the starts left is what it says of all. Each return is a step of the search, and the search is the rules's rule.
 use mathlib.Core.Path.{_≡_, refl, ap, sym, _∙_}
 use mathlib.Core.Bool.{false}
 use mathlib.Core.Logic.{⊎-elim}
