@@ -77,7 +77,7 @@ eight-is s i a b e f =
     rw (e, f, g, bits-add s (8 * i) 32 32)
 
 -- a field between the bits in front of it and those behind it
-middle : (s : List ℕ) (o a w d : ℕ) → bits s o (a + (w + d)) / 2 ^ d % 2 ^ w ≡ bits s (o + a) w
+pub middle : (s : List ℕ) (o a w d : ℕ) → bits s o (a + (w + d)) / 2 ^ d % 2 ^ w ≡ bits s (o + a) w
 middle s o a w d =
     rw (bits-add s o a (w + d), bits-add s (o + a) w d, pow-add 2 w d, ← mul-assoc (bits s o a) (2 ^ w) (2 ^ d))
     (ap (λ (x : ℕ). x / 2 ^ d % 2 ^ w) (join (bits s o a * 2 ^ w) (bits s (o + a) w) (2 ^ d) (bits s (o + a + w) d))

@@ -1,3 +1,4 @@
 pub mod BitsLaws
 pub mod SignLaws
 pub mod ReadLaws
+pub mod AheadLaws

@@ -32,7 +32,7 @@ read-wrong : {A : Type 0} (none : A) (right : ℕ → Bool) (means : ℕ → A) 
 unfolding readAt judged
 read-wrong none right means ref w s at v e f = rw (e, f)
 
-read-right : {A : Type 0} (none : A) (right : ℕ → Bool) (means : ℕ → A) (ref w : ℕ) (s : List ℕ) (at v : ℕ) → fieldAt s at w ≡ Value v → right v ≡ true
+pub read-right : {A : Type 0} (none : A) (right : ℕ → Bool) (means : ℕ → A) (ref w : ℕ) (s : List ℕ) (at v : ℕ) → fieldAt s at w ≡ Value v → right v ≡ true
     → record { item = means v; place = At (at + w) } ≡ readAt none right means ref w s (At at)
 unfolding readAt judged
 read-right none right means ref w s at v e f = rw (e, f)
@@ -233,7 +233,7 @@ module _ {A : Type 0} (none : A) (right : ℕ → Bool) (means : ℕ → A) (ref
   accepted (At at) k = (record { is = tt }, judged-in at (fieldAt s at w) refl k)
   accepted (Refused n b) k = absurd (k .is)
 
-within-in : (lo hi v : ℕ) → within lo hi v ≡ true → (lo ≤ v) × (v ≤ hi)
+pub within-in : (lo hi v : ℕ) → within lo hi v ≡ true → (lo ≤ v) × (v ≤ hi)
 within-in lo hi v e = by (leb lo v) (leb v hi) refl refl e
   where
     by : (a b : Bool) → leb lo v ≡ a → leb v hi ≡ b → a && b ≡ true → (lo ≤ v) × (v ≤ hi)

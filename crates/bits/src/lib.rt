@@ -2,8 +2,8 @@
 ghost use mathlib.Core.Path.{_≡_};
 ghost use Prim.Native.Nat.{_+_, _-_, _*_, _/_, _%_, _≤_, _<_, _^_};
 ghost use lib.ListN.{length};
-ghost use Rattle.bits.specs.Bits.{bits, fieldAt};
-ghost use Rattle.bits.specs.Place.{bitOf, unmeant, signedAt, Found, Number};
+ghost use Rattle.bits.specs.Bits.{bits, fieldAt, aheadOf};
+ghost use Rattle.bits.specs.Place.{bitOf, within, unmeant, signedAt, Found, Number};
 ghost use Rattle.bits.specs.Signed.{signedOf};
 ghost use lib.IntN.{natAbs};
 
@@ -55,6 +55,24 @@ fn cut(v: u64, skip: usize, width: usize) -> u32
     ensures { λ r. ⌜ r ≡ v / 2 ^ (64 - (skip + width)) % 2 ^ width ⌝ }
 {
     ((v >> (64 - (skip + width))) % (1 << width)) as u32
+}
+
+// The 57 bits from a bit on and a few behind them, from the top of a word.
+pub fn ahead(image: &[u8], at: usize) -> u64
+    requires { ⌜ at / 8 + 8 ≤ length (now image) ⌝ }
+    ensures { λ r. ⌜ r ≡ aheadOf (now (image .entry)) at ⌝ }
+{
+    window(image, at / 8) << (at % 8)
+}
+
+// Whether a number is from low to high.
+pub fn between(v: u64, low: u64, high: u64) -> bool
+    ensures { λ r. ⌜ r ≡ within low high v ⌝ }
+{
+    if v < low {
+        return false;
+    }
+    v <= high
 }
 
 // A field near the image's end, from the bytes that it touches.
@@ -177,7 +195,7 @@ pub fn extend(v: u32, full: u32) -> i16
 }
 
 // How far from 0 a field's value in two's complement is.
-fn magnitude(v: u32, full: u32) -> u32
+pub fn magnitude(v: u32, full: u32) -> u32
     requires { ⌜ (v < full) × (full ≤ 32768) ⌝ }
     ensures { λ r. ⌜ r ≡ natAbs (signedOf full v) ⌝ }
 {

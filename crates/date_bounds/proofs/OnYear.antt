@@ -21,7 +21,7 @@ use Rattle.rules.specs.declared.Date.{Date}
 use Rattle.rules.specs.declared.Date.the-variants.{Fixed, Weekday, Easter}
 use Rattle.rules.specs.declared.DateOffset.{DateOffset}
 use Rattle.date_bounds.specs.Bounds.{fixedOn, forward, backward, kth, nthIn, nthOn, onYear, ownYear, yearFor, dateOn, boundOn, YearOk, MonthOk, DateOk, Before}
-use Rattle.date_items.proofs.Offsets.{again}
+use Rattle.calendar.proofs.Offsets.{again}
 use Rattle.date_bounds.proofs.Nth.{kth-within, kth-within-back}
 
 -- a fixed date, in its month and past it

@@ -8,13 +8,12 @@ use lib.IntN.{ℤ, natAbs}
 use mir.Syntax.{w16}
 use mir.Val.{toZ, ofZ}
 use Rattle.calendar.specs.Moved.{movedBack}
-use Rattle.calendar.proofs.Offsets.{movedBack-low}
+use Rattle.calendar.proofs.Offsets.{movedBack-low, again}
 use Rattle.days.specs.DayOf.{dayOf}
 use Rattle.days.specs.declared.Day.{Day}
 use Rattle.rules.specs.declared.WeekdayRange.{WeekdayRange}
 use Rattle.rules.specs.declared.WeekdayRange.the-variants.{Fixed, Holiday}
 use Rattle.date_items.specs.Items.{shifted, weekdayMatches}
-use Rattle.date_items.proofs.Offsets.{again}
 use Rattle.date_items.proofs.Laws.{is-day, own-number}
 use Rattle.date_filter.specs.Filter.{Holidays, certainOf, unknownOf, inImage, weekdayItemMatches, itemUnknown}
 

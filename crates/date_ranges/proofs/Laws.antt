@@ -16,7 +16,7 @@ use Rattle.calendar.specs.Parts.{Settled}
 use Rattle.calendar.specs.Moved.{moved}
 use Rattle.calendar.proofs.Days.{year-suc, year-low, year-high, years-mono}
 use Rattle.calendar.proofs.Direct.{directly}
-use Rattle.calendar.proofs.Offsets.{moved-high}
+use Rattle.calendar.proofs.Offsets.{moved-high, again}
 use Rattle.days.specs.DayOf.{dayOf}
 use Rattle.days.specs.declared.Day.{Day}
 use Rattle.days.proofs.Laws.{known, year-from}
@@ -25,7 +25,6 @@ use Rattle.rules.specs.declared.Date.the-variants.{Fixed, Weekday, Easter}
 use Rattle.rules.specs.declared.DateOffset.{DateOffset}
 use Rattle.intervals.specs.Intervals.{intervals, decides}
 use Rattle.date_bounds.specs.Bounds.{ownYear, yearFor, YearOk, BoundOk, Before}
-use Rattle.date_items.proofs.Offsets.{again}
 use Rattle.date_bounds.proofs.OnYear.{moved-low, own-ok, year-any, year-own}
 use Rattle.date_ranges.specs.Ranges.{inside, firstProper, isLeapDay, leapDay, leapDayIn, some, leapDaysMatch, otherMatch, undatedMatch, givenYear, datedMatch, datesMatch}
 

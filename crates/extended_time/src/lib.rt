@@ -51,7 +51,7 @@ impl ExtendedTime {
     pub fn mins_from_midnight(self) -> u16
         ensures { λ r. ⌜ r ≡ self .minutes ⌝ }
     {
-        self.minutes
+        return self.minutes;
     }
 
     pub fn hour(self) -> u16

@@ -21,7 +21,7 @@ use Rattle.rule_items.specs.Spans.{fixedTime, variableTime, timeForm, timeAt, s
 use Rattle.rule_image.specs.Listed.{listed}
 use Rattle.rule_image.specs.RuleAt.{headAt, countsAt, ruleAt}
 use Rattle.rule_image.specs.Reading.{sheetAt, fillBits, ended, filled, noSheet, kept, reading}
-use Rattle.rule_image.specs.declared.Head.{Head}
+use Rattle.rule_lists.specs.declared.Head.{Head}
 use Rattle.rule_image.specs.Limits.{Few, Between, MaybeYear, without, with-year, DateOk, DateOffsetOk, MonthdayOk, YearOk, WeekOk, WeekdayOk, TimeOk, SpanOk, Counted, RuleOk, SheetOk}
 
 -- a reading that keeps its limits: where it is accepted, it stood before, and what it read is good

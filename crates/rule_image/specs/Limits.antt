@@ -22,15 +22,7 @@ use Rattle.rules.specs.declared.Time.the-variants as time
 use Rattle.rules.specs.declared.TimeSpan.{TimeSpan}
 use Rattle.rules.specs.declared.Rule.{Rule}
 use Rattle.rules.specs.declared.Sheet.{Sheet}
-use Rattle.rule_image.specs.declared.Counts.{Counts}
-
--- five counts of at most 8
-pub record Few (c : Counts) : Type 0 where
-  pub ys : c .years ≤ 8
-  pub ms : c .monthdays ≤ 8
-  pub ws : c .weeks ≤ 8
-  pub ds : c .weekdays ≤ 8
-  pub ts : c .spans ≤ 8
+pub use Rattle.rule_lists.specs.RuleAt.{Few}
 
 abbrev pub Between : ℕ → ℕ → ℕ → Type 0
 Between lo hi n = (lo ≤ n) × (n ≤ hi)

@@ -12,11 +12,20 @@ use Rattle.rules.specs.declared.Rule.{Rule}
 use Rattle.rules.specs.declared.Sheet.{Sheet}
 use Rattle.rule_image.specs.Listed.{listed}
 use Rattle.rule_image.specs.RuleAt.{ruleAt}
+use Rattle.rule_image.specs.declared.Header.{Header}
 use Rattle.rule_image.specs.declared.Verdict.{Verdict}
 use Rattle.rule_image.specs.declared.Verdict.the-variants as verdict
 
 abbrev pub rulesAt : List ℕ → ℕ → Place → ℕ → Read (List Rule)
 rulesAt s edition = listed (ruleAt s edition) (replicate 32 noRule)
+
+-- edition 4 (1), reserved 6 (0), rule count 6 (0 to 32)
+unfoldable pub headerAt : List ℕ → Read Header
+headerAt s =
+    let e : Read ℕ = numberAt s (At 0) 4 1 1 2 in
+    let v : Read ℕ = numberAt s (e .place) 6 0 0 2 in
+    let n : Read ℕ = numberAt s (v .place) 6 0 32 3 in
+    record { item = record { edition = e .item; count = n .item }; place = n .place }
 
 -- edition 4 (1), reserved 6 (0), rule count 6 (0 to 32), the rules
 unfoldable pub sheetAt : List ℕ → Read Sheet

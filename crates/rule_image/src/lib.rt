@@ -1,28 +1,16 @@
 // The reading of a rule image, for any bytes: the sheet, or the refusal's number and place in reading order.
 mod fill;
-mod lists;
-mod rule;
 mod sheet;
 
 ghost use mathlib.Core.Path.{_≡_};
 ghost use Rattle.rule_image.specs.Reading.{reading, noSheet, verdictOn};
 use bits::Place;
-use rules::Operator;
 use rules::Sheet;
 
-// What a rule does, before its counts.
-pub struct Head {
-    pub operator: Operator,
-    pub kind: u8,
-    pub comment: u8,
-}
-
-pub struct Counts {
-    pub years: usize,
-    pub monthdays: usize,
-    pub weeks: usize,
-    pub weekdays: usize,
-    pub spans: usize,
+// What stands in front of the rules.
+pub struct Header {
+    pub edition: u32,
+    pub count: usize,
 }
 
 // The sheet, and where it ends; a refused image has the sheet without rules.
@@ -47,26 +35,42 @@ fn no_sheet() -> Sheet
     }
 }
 
+// The rules are set where the sheet is built: it is large, and each copy of it costs as much as a rule.
 pub fn read_sheet(image: &[u8]) -> SheetRead
     ensures { λ r. ⌜ record { item = r .sheet; place = r .end } ≡ reading (now (image .entry)) ⌝ }
 {
-    let s = sheet::sheet(image);
-    let p = s.place;
+    let h = sheet::header(image);
+    let head = h.item;
+    let count = head.count;
+    let edition = head.edition;
+    let none = rules::no_rule();
+    let mut items = [none; 32];
+    let mut p = h.place;
+    let mut i: usize = 0;
+    while i < count {
+        let r = rule_lists::rule::rule(image, p, edition);
+        let item = r.item;
+        items[i] = item;
+        p = r.place;
+        i += 1;
+    }
     let end = fill::filled(image, p);
     match end {
         Place::At(at) => {
-            let sheet = s.item;
-            SheetRead {
-                sheet: sheet,
+            return SheetRead {
+                sheet: Sheet {
+                    count: count,
+                    rules: items,
+                },
                 end: Place::At(at),
-            }
+            };
         }
         Place::Refused(n, b) => {
-            let none = no_sheet();
-            SheetRead {
-                sheet: none,
+            let nothing = no_sheet();
+            return SheetRead {
+                sheet: nothing,
                 end: Place::Refused(n, b),
-            }
+            };
         }
     }
 }

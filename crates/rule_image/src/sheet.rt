@@ -1,19 +1,13 @@
-// The sheet: edition, reserved bits, count and rules.
-ghost use Prim.Native.Nat.{_*_, _<_, _≤_, _^_};
+// What stands in front of the rules: edition, reserved bits and count.
+ghost use Prim.Native.Nat.{_<_, _≤_, _^_};
 ghost use Rattle.bits.specs.Place.{bitOf, Found, Number};
-ghost use Rattle.rule_image.specs.Reading.{rulesAt, sheetAt};
+ghost use Rattle.rule_image.specs.Reading.{headerAt};
+use crate::Header;
 use bits::Num;
 use bits::Place;
-use rules::Rule;
-use rules::Sheet;
 
-pub struct Rules {
-    pub items: [Rule; 32],
-    pub place: Place,
-}
-
-pub struct SheetAt {
-    pub item: Sheet,
+pub struct HeaderRead {
+    pub item: Header,
     pub place: Place,
 }
 
@@ -48,29 +42,9 @@ fn reserved(image: &[u8], place: Place) -> Num
     }
 }
 
-fn rules_of(image: &[u8], place: Place, count: usize, edition: u32) -> Rules
-    requires { ⌜ (bitOf place < 2 ^ 23) × (count ≤ 32) ⌝ }
-    ensures { λ r. ⌜ Found (r .items) (r .place) (rulesAt (now (image .entry)) edition place count) place (1592 * count) ⌝ }
-{
-    let none = rules::no_rule();
-    let mut items = [none; 32];
-    let mut p = place;
-    let mut i: usize = 0;
-    while i < count {
-        let r = crate::rule::rule(image, p, edition);
-        let item = r.item;
-        items[i] = item;
-        p = r.place;
-        i += 1;
-    }
-    Rules {
-        items: items,
-        place: p,
-    }
-}
-
-pub fn sheet(image: &[u8]) -> SheetAt
-    ensures { λ r. ⌜ Found (r .item) (r .place) (sheetAt (now (image .entry))) (Place.At 0) 50960 ⌝ }
+pub fn header(image: &[u8]) -> HeaderRead
+    ensures { λ r. ⌜ Found (r .item) (r .place) (headerAt (now (image .entry))) (Place.At 0) 16 ⌝ }
+    ensures { λ r. ⌜ r .item .count ≤ 32 ⌝ }
 {
     let e = edition(image);
     let p = e.place;
@@ -78,15 +52,11 @@ pub fn sheet(image: &[u8]) -> SheetAt
     let q = v.place;
     let n = bits::number(image, q, 6, 0, 32, 3);
     let r = n.place;
-    let count = n.value as usize;
-    let all = rules_of(image, r, count, e.value);
-    let items = all.items;
-    let t = all.place;
-    SheetAt {
-        item: Sheet {
-            count: count,
-            rules: items,
+    HeaderRead {
+        item: Header {
+            edition: e.value,
+            count: n.value as usize,
         },
-        place: t,
+        place: r,
     }
 }

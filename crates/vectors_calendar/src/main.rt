@@ -1,9 +1,9 @@
-// Replays recorded calendar questions: two dates each, and what the public answers of `dates` must be.
+// Replays recorded calendar questions: two dates each, and what the public answers about dates must be.
 ghost use Prim.Native.Nat.{_≤_};
 use calendar::Date;
-use dates::Answer;
-use dates::DateAnswer;
-use dates::SignedAnswer;
+use date_answers::Answer;
+use date_answers::DateAnswer;
+use date_answers::SignedAnswer;
 use replay::Tally;
 
 fn date_at(question: &[u8], at: usize) -> Date
@@ -76,21 +76,25 @@ fn is_back(answer: SignedAnswer) -> bool {
 // Where the second number is 1, the way is backward, and the turned question has the count.
 fn apart_says(from: Date, to: Date, due: &[u8]) -> bool {
     if replay::word(due, 48) == 1 {
-        if is_back(dates::days_apart(from, to)) {
-            return says_forward(dates::days_apart(to, from), due, 44);
+        if is_back(date_answers::days_apart(from, to)) {
+            return says_forward(date_answers::days_apart(to, from), due, 44);
         }
         return false;
     }
-    says_forward(dates::days_apart(from, to), due, 44)
+    says_forward(date_answers::days_apart(from, to), due, 44)
 }
 
 fn calendar_says(date: Date, due: &[u8]) -> bool {
     let there = if dates::exists(date) { 1 } else { 0 };
     if replay::word(due, 0) == there {
-        if says_number(dates::count_days_in_month(date.year, date.month), due, 4) {
-            if says_number(dates::weekday(date), due, 12) {
-                if says_number(dates::iso_week(date), due, 20) {
-                    return says_date(dates::easter(date.year), due, 28);
+        if says_number(
+            date_answers::count_days_in_month(date.year, date.month),
+            due,
+            4,
+        ) {
+            if says_number(date_answers::weekday(date), due, 12) {
+                if says_number(date_answers::iso_week(date), due, 20) {
+                    return says_date(date_answers::easter(date.year), due, 28);
                 }
             }
         }

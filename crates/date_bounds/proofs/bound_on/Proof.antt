@@ -2,7 +2,7 @@
 use mathlib.Core.Path.{ap, sym, _∙_}
 use native.Mathlib.Omega.{arith}
 use Rattle.calendar.specs.Moved.{moved}
-use Rattle.date_items.proofs.Offsets.{widens, widened}
+use Rattle.calendar.proofs.Offsets.{widens, widened}
 use Rattle.date_bounds.proofs.OnYear.{can-move, stays, moves}
 use Rattle.date_bounds.proofs.bound_on.Statement.{statement}
 use Rattle.date_bounds.proofs.bound_on.Tie as tie

@@ -5,8 +5,7 @@ use native.Mathlib.Omega.{arith}
 use borrow.Author.Needs.{needs}
 use lib.IntN.{natAbs}
 use Rattle.calendar.specs.Moved.{moved}
-use Rattle.calendar.proofs.Offsets.{moved-high}
-use Rattle.date_items.proofs.Offsets.{widens, widened}
+use Rattle.calendar.proofs.Offsets.{moved-high, widens, widened}
 use Rattle.date_bounds.proofs.OnYear.{moved-low, forwards, backwards}
 use Rattle.date_bounds.proofs.nth_in.Statement.{statement}
 use Rattle.date_bounds.proofs.nth_in.Tie as tie

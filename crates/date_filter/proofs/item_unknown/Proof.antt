@@ -6,7 +6,7 @@ use borrow.Author.Needs.{needs}
 use lib.IntN.{natAbs}
 use Rattle.date_items.specs.Items.{shifted}
 use Rattle.date_filter.specs.Filter.{images}
-use Rattle.date_items.proofs.Offsets.{small-again}
+use Rattle.calendar.proofs.Offsets.{small-again}
 use Rattle.date_filter.proofs.Laws.{shift-again, shift-day, unknown-school, unknown-public, never-unknown}
 use Rattle.date_filter.proofs.item_unknown.Statement.{statement}
 use Rattle.date_filter.proofs.item_unknown.Tie as tie

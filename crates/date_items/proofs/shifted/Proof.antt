@@ -4,7 +4,7 @@ use borrow.Author.Needs.{needs}
 use Rattle.calendar.specs.Moved.{movedBack}
 use Rattle.days.specs.DayOf.{dayOf}
 use Rattle.date_items.specs.Items.{shifted}
-use Rattle.date_items.proofs.Offsets.{widens, widened, not-moved}
+use Rattle.calendar.proofs.Offsets.{widens, widened, not-moved}
 use Rattle.date_items.proofs.shifted.Statement.{statement}
 use Rattle.date_items.proofs.shifted.Tie as tie
 

@@ -3,9 +3,8 @@ use mathlib.Core.Path.{_≡_, ap, _∙_}
 use native.Mathlib.Omega.{arith}
 use borrow.Author.Needs.{needs}
 use Rattle.calendar.specs.Moved.{movedBack}
-use Rattle.calendar.proofs.Offsets.{movedBack-low}
+use Rattle.calendar.proofs.Offsets.{movedBack-low, again}
 use Rattle.date_items.specs.Items.{shifted, weekdayOn, weekdayMatches}
-use Rattle.date_items.proofs.Offsets.{again}
 use Rattle.date_items.proofs.Laws.{is-day, own-number}
 use Rattle.date_items.proofs.weekday_matches.Statement.{statement}
 use Rattle.date_items.proofs.weekday_matches.Tie as tie

@@ -6,7 +6,7 @@ use borrow.Author.Needs.{needs}
 use Rattle.calendar.proofs.Days.{years-low, years-high}
 use Rattle.calendar.specs.Moved.{moved}
 use Rattle.date_ranges.specs.Ranges.{inside}
-use Rattle.date_items.proofs.Offsets.{widens, widened}
+use Rattle.calendar.proofs.Offsets.{widens, widened}
 use Rattle.date_ranges.proofs.Laws.{leap-yes, leap-no}
 use Rattle.date_ranges.proofs.leap_day_in.Statement.{statement}
 use Rattle.date_ranges.proofs.leap_day_in.Tie as tie

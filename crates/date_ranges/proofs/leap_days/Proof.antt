@@ -5,7 +5,7 @@ use Prim.Native.Nat.{_+_, _-_}
 use native.Mathlib.Omega.{arith}
 use borrow.Author.Needs.{needs}
 use Rattle.date_ranges.specs.Ranges.{leapDayIn, leapDaysMatch}
-use Rattle.date_items.proofs.Offsets.{small-again}
+use Rattle.calendar.proofs.Offsets.{small-again}
 use Rattle.date_ranges.proofs.Laws.{kept, three-years, at-first, at-second, at-third}
 use Rattle.date_ranges.proofs.leap_days.Statement.{statement}
 use Rattle.date_ranges.proofs.leap_days.Tie as tie

@@ -2,7 +2,7 @@
 use mathlib.Core.Path.{sym, _∙_}
 use native.Mathlib.Omega.{arith}
 use borrow.Author.Needs.{needs}
-use Rattle.date_items.proofs.Offsets.{small-again}
+use Rattle.calendar.proofs.Offsets.{small-again}
 use Rattle.date_ranges.proofs.Laws.{kept-all, both-leap, start-leap, not-leap}
 use Rattle.date_ranges.proofs.undated.Statement.{statement}
 use Rattle.date_ranges.proofs.undated.Tie as tie

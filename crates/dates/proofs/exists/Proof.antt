@@ -27,11 +27,11 @@ returns : tie.Need-returns
 unfolding isDate
 returns c =
     let m = c .before .before .before in
-    rw (m .month-length .ensures, m .before .is-leap .ensures, is (m .before .before), le-leb _ _ (c .before .if2 .taken))
+    rw (m .month-length .ensures, m .before .is-leap .ensures, is (m .before .before), le-leb 1 _ (c .before .if2 .taken))
 
 returns-2 : tie.Need-returns-2
 unfolding isDate
-returns-2 c = rw (is (c .before .before .before .before), lt-leb _ _ (c .if2 .left))
+returns-2 c = rw (is (c .before .before .before .before), lt-leb 1 _ (c .if2 .left))
 
 returns-3 : tie.Need-returns-3
 unfolding isDate

@@ -1,0 +1,4 @@
+pub mod Days
+pub mod Search
+pub mod Meaning
+pub mod Words

@@ -1,0 +1,4 @@
+pub mod PackLaws
+pub mod SizeLaws
+pub mod DaySizes
+pub mod ChangeSizes

@@ -1,0 +1,4 @@
+pub mod Shop
+pub mod Answer
+pub mod Meaning
+pub mod Looking

@@ -1,0 +1,4 @@
+pub mod Folding
+pub mod Firsts
+pub mod Whole
+pub mod Ends

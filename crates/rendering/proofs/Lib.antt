@@ -1,0 +1,3 @@
+pub mod Stores
+pub mod Decimals
+pub mod Lines

@@ -1,0 +1,55 @@
+//! The library's C functions, as in include/kumolendi.h; nothing checks either against the library's source.
+
+/// The C struct of a next change.
+#[repr(C)]
+#[derive(Clone, Copy, Debug, PartialEq, Eq)]
+pub struct KumolendiChange {
+    pub refusal: u32,
+    pub place: u32,
+    pub year: u32,
+    pub month: u32,
+    pub day: u32,
+    pub minute: u32,
+    pub examined: u32,
+}
+
+unsafe extern "C" {
+    pub fn kumolendi_list_day(
+        rules: *const u8, rules_len: usize,
+        dawn: u16, sunrise: u16, sunset: u16, dusk: u16,
+        public: *const u8, public_len: usize,
+        public_unknown: *const u8, public_unknown_len: usize,
+        school: *const u8, school_len: usize,
+        school_unknown: *const u8, school_unknown_len: usize,
+        year: u32, month: u32, day: u32,
+        out: *mut u32, out_len: usize,
+    ) -> u64;
+
+    pub fn kumolendi_check_rules(rules: *const u8, rules_len: usize) -> u64;
+
+    pub fn kumolendi_check_holidays(image: *const u8, image_len: usize) -> u64;
+
+    pub fn kumolendi_holidays_in_month(image: *const u8, image_len: usize, year: u32, month: u32) -> u64;
+
+    pub fn kumolendi_first_holiday_after(image: *const u8, image_len: usize, year: u32, month: u32, day: u32) -> u64;
+
+    pub fn kumolendi_next_change(
+        rules: *const u8, rules_len: usize,
+        dawn: u16, sunrise: u16, sunset: u16, dusk: u16,
+        public: *const u8, public_len: usize,
+        public_unknown: *const u8, public_unknown_len: usize,
+        school: *const u8, school_len: usize,
+        school_unknown: *const u8, school_unknown_len: usize,
+        year: u32, month: u32, day: u32, minute: u32, days: u32,
+    ) -> KumolendiChange;
+
+    pub fn kumolendi_build(
+        given: *const u32, given_len: usize, kind: u8, comment: u8, out: *mut u32, out_len: usize,
+    ) -> u64;
+
+    pub fn kumolendi_addition(
+        a: *const u32, a_len: usize, b: *const u32, b_len: usize, out: *mut u32, out_len: usize,
+    ) -> u64;
+
+    pub fn kumolendi_listing(words: *const u32, words_len: usize, out: *mut u32, out_len: usize) -> u64;
+}
