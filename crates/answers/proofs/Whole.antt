@@ -1,49 +1,27 @@
 -- A day that isn't refused has all its entries written: 129 cells hold every listing of 64 ranges.
-use mathlib.Core.Path.{_≡_, refl}
+use mathlib.Core.Path.{_≡_}
 use mathlib.Core.Bool.{true}
-use mathlib.Core.List.{List, [], _∷_, map}
-use mathlib.Core.Option.{Option, none, some}
-use Prim.Native.Nat.{ℕ, _+_, _≤_}
-use native.Mathlib.Omega.{arith}
+use mathlib.Core.List.{List, map}
+use mathlib.Core.Option.{Option}
+use Prim.Native.Nat.{ℕ, _≤_}
 use lib.Dec.{leb}
 use lib.ListN.{length, take, drop, replicate, length-map}
 use lib.Seq.{take-at}
-use borrow.Author.Tests.{leb-true, le-leb, eq-eqb}
+use borrow.Author.Tests.{le-leb, eq-eqb}
 use Rattle.calendar.specs.Calendar.{dayNumber}
-use Rattle.rules.specs.declared.Sheet.{Sheet}
-use Rattle.time_filter.specs.declared.Events.{Events}
-use Rattle.date_filter.specs.Filter.{Holidays}
 use Rattle.ranges.specs.Range.{Range}
 use Rattle.ranges.specs.Words.{ranges, wordOf}
-use Rattle.ranges.proofs.Cases.{by}
-use Rattle.ranges.proofs.Closing.{few-drop}
-use Rattle.reading.specs.Operators.{Turn, start}
-use Rattle.reading.specs.Ranging.{Spanned, over64, gives, fewB, turnR, rangeM, dayR}
+use Rattle.reading.specs.Ranging.{gives, dayR}
 use Rattle.listing.specs.Listing.{listing}
 use Rattle.listing.specs.Writing.{listedIn, cellsOf, written}
 use Rattle.listing.proofs.Tiling.{few-listing}
-use Rattle.opening_hours.specs.Hours.{spannedsOn, dayRanged}
+use Rattle.opening_hours.proofs.Few.{day-few}
 use Rattle.dates.specs.Exists.{isDate}
 use Rattle.inputs.specs.Inputs.{inputsOf}
 use Rattle.day_listing.specs.Listed.{answerOn, cellsOn, dateRanged}
 use Rattle.framing.specs.Framing.{Parts}
 use Rattle.rendering.specs.Text.{linesOf}
 use Rattle.answers.specs.Answers.{answerText, dayText, eventsOf, holidaysOf, askedDate}
-
--- Each result is judged, so the last has at most 64 ranges.
-gives-few : (n : ℕ) (ms : List Spanned) (p : Turn (List Range)) (e : Option (List Range)) → fewB (p .eval) ≡ true → rangeM n ms p ≡ gives e → fewB e ≡ true
-gives-few n [] p e h k = let q : p .eval ≡ e = cc in rw (← q) h
-gives-few n (m ∷ ms) p e h k =
-    by (fewB (turnR m p .eval))
-    (λ f. gives-few (n + 1) ms (turnR m p) e f (rw f at k))
-    (λ f. let z : over64 n ≡ gives e = rw f at k in let w : _≡_ {A = ℕ} 0 1 = cc in absurd (omega arith))
-
-day-few : (h : Holidays) (row : Events) (n : ℕ) (s : Sheet) (e : Option (List Range)) → dayRanged h row n s ≡ gives e → fewB e ≡ true
-day-few h row n s e k = gives-few 0 (spannedsOn h row n s) start e refl k
-
-few-ranges : (e : Option (List Range)) → fewB e ≡ true → length (dayR e) ≤ 64
-few-ranges none h = omega arith
-few-ranges (some l) h = omega (arith, few-drop l, leb-true (length l) 64 h)
 
 -- A listing of at most 129 entries stands in a room of 129, and its words are read from the front.
 all-written : (l : List Range) → length l ≤ 64 → answerText (listedIn l 129) (cellsOf l (replicate 129 0)) ≡ linesOf (ranges (map wordOf (listing l)))
@@ -60,5 +38,5 @@ pub whole-listing : (p : Parts) (e : Option (List Range)) → inputsOf (p .rules
 unfolding dayText answerOn cellsOn
 whole-listing p e a d r =
     let i = inputsOf (p .rules) (eventsOf p) (holidaysOf p) in
-    let f = few-ranges e (day-few (holidaysOf p) (eventsOf p) (dayNumber (askedDate p)) (i .sheet) e r) in
+    let f = day-few (holidaysOf p) (eventsOf p) (dayNumber (askedDate p)) (i .sheet) e r in
     rw (eq-eqb _ 0 a, d, r) (all-written (dayR e) f)

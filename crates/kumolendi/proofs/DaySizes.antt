@@ -1,12 +1,11 @@
 -- The count and the place of a day's listing fit the lower half of an answer: there are at most 32 rules, and at most 64 ranges.
-use mathlib.Core.Path.{_≡_, refl, sym, ap, _∙_}
+use mathlib.Core.Path.{_≡_, refl}
 use mathlib.Core.Bool.{Bool, true, false, cond}
-use mathlib.Core.Option.{Option, none, some}
 use mathlib.Core.List.{List, [], _∷_, map}
 use Prim.Native.Nat.{ℕ, _+_, _≤_, _<_}
 use native.Mathlib.Omega.{arith}
 use lib.Dec.{eqb, leb}
-use borrow.Author.Tests.{leb-true, eqb-true}
+use borrow.Author.Tests.{eqb-true}
 use lib.ListN.{length, length-take, length-map}
 use Rattle.calendar.specs.Calendar.{dayNumber}
 use Rattle.calendar.specs.declared.Date.{Date}
@@ -15,7 +14,6 @@ use Rattle.rules.specs.declared.Sheet.{Sheet}
 use Rattle.time_filter.specs.declared.Events.{Events}
 use Rattle.date_filter.specs.Filter.{Holidays}
 use Rattle.ranges.specs.Range.{Range}
-use Rattle.ranges.specs.Closed.{blankB, dropR}
 use Rattle.reading.specs.Operators.{Turn, start}
 use Rattle.reading.specs.Ranging.{Spanned, Ranged, over64, gives, turnR, fewB, rangeM, dayR}
 use Rattle.rule_day.specs.Parts.{spannedOn}
@@ -27,7 +25,8 @@ use Rattle.inputs.specs.Inputs.{inputsOf}
 use Rattle.inputs.proofs.Meaning.{sheet-ok, inputs-limits}
 use Rattle.day_listing.specs.Listed.{dayListed, dateRanged, answerOn}
 use Rattle.kumolendi.specs.Answers.{Small}
-use Rattle.kumolendi.proofs.SizeLaws.{listing-few}
+use Rattle.listing.proofs.Tiling.{few-listing}
+use Rattle.opening_hours.proofs.Few.{day-few}
 
 -- a refused rule is one of the rules
 pub range-near : (n : ℕ) (ms : List Spanned) (p : Turn (List Range)) (k : ℕ) → rangeM n ms p ≡ over64 k → k < n + length ms
@@ -38,29 +37,6 @@ range-near n (m ∷ ms) p k e = by (fewB (turnR m p .eval)) (range-near (n + 1) 
         → k < n + length (m ∷ ms)
     by true f g = omega (arith, f g)
     by false f g = let z : n ≡ k = cc in omega arith
-
--- what the rules give has at most 64 ranges
-range-few : (n : ℕ) (ms : List Spanned) (p : Turn (List Range)) (v : Option (List Range)) → fewB (p .eval) ≡ true → rangeM n ms p ≡ gives v → fewB v ≡ true
-range-few n [] p v f e = let z : p .eval ≡ v = cc in ap fewB (sym z) ∙ f
-range-few n (m ∷ ms) p v f e = by (fewB (turnR m p .eval)) refl (range-few (n + 1) ms (turnR m p) v) e
-  where
-    by : (q : Bool) → fewB (turnR m p .eval) ≡ q → (fewB (turnR m p .eval) ≡ true → rangeM (n + 1) ms (turnR m p) ≡ gives v → fewB v ≡ true)
-        → cond q (rangeM (n + 1) ms (turnR m p)) (over64 n) ≡ gives v → fewB v ≡ true
-    by true h g k = g h k
-    by false h g k = let z : _≡_ {A = ℕ} 0 1 = cc in absurd (omega arith)
-
--- dropping makes no more of them
-drop-few : (l : List Range) → length (dropR l) ≤ length l
-drop-few [] = omega arith
-drop-few (r ∷ l) = by (blankB r) (drop-few l)
-  where
-    by : (q : Bool) → length (dropR l) ≤ length l → length (cond q (dropR l) (r ∷ dropR l)) ≤ length (r ∷ l)
-    by true h = omega arith
-    by false h = omega arith
-
-day-few : (v : Option (List Range)) → fewB v ≡ true → length (dayR v) ≤ 64
-day-few none e = omega arith
-day-few (some l) e = omega (arith, drop-few l, leb-true (length l) 64 e)
 
 module _ (h : Holidays) (row : Events) (n : ℕ) (s : Sheet) where
   pub rules-few : s .count ≤ 32 → length (spannedsOn h row n s) ≤ 32
@@ -74,12 +50,12 @@ module _ (h : Holidays) (row : Events) (n : ℕ) (s : Sheet) where
   day-small c cells = by (dayRanged h row n s) refl
     where
       of-list : (l : List Range) → length l ≤ 64 → (q : Bool) → Small (cond q (says 0 0 (length (listing l))) (says 9 (length (listing l)) 0))
-      of-list l k true = record { count = omega (arith, listing-few l); place = omega arith }
-      of-list l k false = record { count = omega arith; place = omega (arith, listing-few l) }
+      of-list l k true = record { count = omega (arith, few-listing l k); place = omega arith }
+      of-list l k false = record { count = omega arith; place = omega (arith, few-listing l k) }
 
       by : (x : Ranged) → dayRanged h row n s ≡ x → Small (dayListed x cells)
       by (over64 k) e = record { count = omega arith; place = omega (arith, range-near 0 (spannedsOn h row n s) start k e, rules-few c) }
-      by (gives v) e = of-list (dayR v) (day-few v (range-few 0 (spannedsOn h row n s) start v refl e)) (leb (length (listing (dayR v))) cells)
+      by (gives v) e = of-list (dayR v) (day-few h row n s v e) (leb (length (listing (dayR v))) cells)
 
 -- the limits of the inputs where they are refused, else those of the day
 pub answer-small : (rules : List ℕ) (row : Events) (h : Holidays) (date : Date) (cells : ℕ) (w : Written) → w ≡ answerOn rules row h date cells → Small w

@@ -1,8 +1,8 @@
 -- Every count and place fits the lower half of an answer.
 use mathlib.Core.Path.{_≡_, refl, sym, _∙_}
 use mathlib.Core.Bool.{Bool, true, false, cond}
-use mathlib.Core.List.{List, [], _∷_}
-use Prim.Native.Nat.{ℕ, zero, suc, _+_, _*_, _-_, _≤_, _<_}
+use mathlib.Core.List.{List}
+use Prim.Native.Nat.{ℕ, zero, suc, _+_, _-_, _≤_, _<_}
 use native.Mathlib.Omega.{arith}
 use lib.Dec.{eqb, leb, ltb}
 use borrow.Author.Tests.{leb-true, ltb-true, ltb-false}
@@ -24,8 +24,8 @@ use Rattle.holidays.specs.Answers.{firstAmong, firstFrom, firstAnswer}
 use Rattle.holidays.specs.declared.First.{First}
 use Rattle.holidays.specs.declared.First.the-variants as first
 use Rattle.holidays.proofs.DayLaws.{before}
-use Rattle.ranges.specs.Range.{Range, same, hull, both}
-use Rattle.ranges.specs.Insertion.{addR, ahead}
+use Rattle.ranges.specs.Range.{both}
+use Rattle.ranges.specs.Insertion.{addR}
 use Rattle.ranges.specs.Build.{buildR, endsB, spanOf, spans}
 use Rattle.ranges.specs.Words.{rangeOf}
 use Rattle.ranges.proofs.Builds.{few-build}
@@ -33,7 +33,8 @@ use Rattle.schedule.specs.declared.Answer.{Answer}
 use Rattle.schedule.specs.declared.Schedule.{Schedule}
 use Rattle.schedule.specs.Schedules.{view, valid, accepted, refused, buildOf, additionOf}
 use Rattle.schedule.proofs.Answers.{valid-in}
-use Rattle.listing.specs.Listing.{closed, holesL, mergeL, mergedL, listing}
+use Rattle.listing.specs.Listing.{listing}
+use Rattle.listing.proofs.Tiling.{few-listing}
 use Rattle.listing.specs.Writing.{says, listingOf}
 use Rattle.listing.specs.declared.Written.{Written}
 use Rattle.word_schedules.specs.Stored.{fitted, wordsOf, storedIn}
@@ -124,36 +125,6 @@ sum-small a b cells w e = rw e (by (valid a) (valid b) (leb (length (addR (view 
     by true false t f = stored-small (refused 10 1) cells (omega arith) (omega arith)
     by false q t f = stored-small (refused 10 0) cells (omega arith) (omega arith)
 
--- a listing has at most one entry more than twice its ranges
-ahead-few : (r : Range) (l : List Range) → length (ahead r l) ≤ suc (length l)
-ahead-few r l = by (ltb (r .start) (r .end))
-  where
-    by : (q : Bool) → length (cond q (r ∷ l) l) ≤ suc (length l)
-    by true = omega arith
-    by false = omega arith
-
--- each range has at most one hole before it, and one stands at the end
-holes-few : (lo : ℕ) (l : List Range) → length (holesL lo l) ≤ 2 * length l + 1
-holes-few lo [] = ahead-few (closed lo 1440) []
-holes-few lo (r ∷ l) = omega (arith, ahead-few (closed lo (r .start)) (r ∷ holesL (r .end) l), holes-few (r .end) l)
-
--- joining makes no more of them
-merge-few : (c : Range) (l : List Range) → length (mergeL c l) ≤ suc (length l)
-merge-few c [] = omega arith
-merge-few c (r ∷ l) = by (same c r) (merge-few (hull c r) l) (merge-few r l)
-  where
-    by : (q : Bool) → length (mergeL (hull c r) l) ≤ suc (length l) → length (mergeL r l) ≤ suc (length l)
-        → length (cond q (mergeL (hull c r) l) (c ∷ mergeL r l)) ≤ suc (suc (length l))
-    by true h k = omega arith
-    by false h k = omega arith
-
-merged-few : (l : List Range) → length (mergedL l) ≤ length l
-merged-few [] = omega arith
-merged-few (c ∷ l) = merge-few c l
-
-pub listing-few : (l : List Range) → length (listing l) ≤ 2 * length l + 1
-listing-few l = omega (arith, merged-few (holesL 0 l), holes-few 0 l)
-
 view-few : (s : Schedule) → valid s ≡ true → length (view s) ≤ 64
 view-few s f =
     omega (arith, valid-in s true (sym f) refl .0, length-map (take (s .len) (s .words)) rangeOf, length-take (s .len) (s .words))
@@ -163,6 +134,6 @@ pub listed-small : (s : Schedule) (cells : ℕ) (w : Written) → w ≡ listingO
 listed-small s cells w e = rw e (by (valid s) (leb (length (listing (view s))) cells) refl)
   where
     by : (p q : Bool) → valid s ≡ p → Small (cond p (cond q (says 0 0 (length (listing (view s)))) (says 9 (length (listing (view s))) 0)) (says 10 0 0))
-    by true true f = record { count = omega (arith, view-few s f, listing-few (view s)); place = omega arith }
-    by true false f = record { count = omega arith; place = omega (arith, view-few s f, listing-few (view s)) }
+    by true true f = record { count = omega (arith, few-listing (view s) (view-few s f)); place = omega arith }
+    by true false f = record { count = omega arith; place = omega (arith, few-listing (view s) (view-few s f)) }
     by false q f = record { count = omega arith; place = omega arith }

@@ -1,5 +1,5 @@
 -- The reading's parts, put together from the last to the first; the end of an image by its cases.
-use mathlib.Core.Path.{_≡_, refl, ap, _∙_}
+use mathlib.Core.Path.{_≡_, refl, ap}
 use mathlib.Core.Bool.{Bool, true, false}
 use mathlib.Core.List.{List}
 use Prim.Native.Nat.{ℕ, _+_, _/_, _<_, _≤_}
@@ -15,8 +15,6 @@ use Rattle.bits.specs.Place.{Read, within, numberAt}
 use Rattle.rules.specs.Nothing.{noRule}
 use Rattle.rules.specs.declared.Rule.{Rule}
 use Rattle.rules.specs.declared.Sheet.{Sheet}
-use Rattle.rule_lists.specs.Listed.{listed}
-use Rattle.rule_lists.specs.RuleAt.{ruleAt}
 use Rattle.rule_image.specs.Reading.{rulesAt, headerAt, sheetAt, fillCount, fillBits, ended, filled, noSheet, reading, verdictOf}
 use Rattle.rule_image.specs.declared.Header.{Header}
 use Rattle.rule_image.specs.declared.Verdict.the-variants as verdict
@@ -82,29 +80,3 @@ verdict-accepted s r a e f = rw (← e, f)
 
 pub verdict-refused : (s : List ℕ) (r : Read Sheet) (n b : ℕ) → r ≡ reading s → r .place ≡ Refused n b → verdict.Refused n b ≡ verdictOf (reading s .place) (reading s .item)
 verdict-refused s r n b e f = rw (← e, f)
-
--- the place behind one rule more, whatever the room is
-pub place-step : (s : List ℕ) (edition : ℕ) (p : Place) (k : ℕ) (q : Place) (y : Read Rule) → q ≡ rulesAt s edition p k .place → y ≡ ruleAt s edition q
-    → y .place ≡ rulesAt s edition p (k + 1) .place
-unfolding listed
-place-step s edition p k q y e g = rw (add-one, g, e)
-
-pub place-none : (s : List ℕ) (edition : ℕ) (p : Place) → p ≡ rulesAt s edition p 0 .place
-unfolding listed
-place-none s edition p = refl
-
--- who only checks needs the place behind the rules, not the rules
-module _ (s : List ℕ) (h : Read Header) (f : h ≡ headerAt s) (p : Place) (i : ℕ) (g : p ≡ rulesAt s (h .item .edition) (h .place) i .place)
-    (j : i ≤ h .item .count) (k : h .item .count ≤ i) (e : Place) (z : e ≡ filled s p) where
-  behind : e ≡ filled s (rulesAt s (h .item .edition) (h .place) (h .item .count) .place)
-  behind = let n : i ≡ h .item .count = omega arith in z ∙ ap (filled s) (g ∙ ap (λ (m : ℕ). rulesAt s (h .item .edition) (h .place) m .place) n)
-
-  pub checked-accepted : (a : ℕ) → e ≡ At a → verdict.Accepted (h .item .count) ≡ verdictOf (reading s .place) (reading s .item)
-  checked-accepted a w =
-      let r = rulesAt s (h .item .edition) (h .place) (h .item .count) in
-      verdict-accepted s _ a (read-accepted s _ e a (sheet-made s h r f refl) behind w) refl
-
-  pub checked-refused : (n b : ℕ) → e ≡ Refused n b → verdict.Refused n b ≡ verdictOf (reading s .place) (reading s .item)
-  checked-refused n b w =
-      let r = rulesAt s (h .item .edition) (h .place) (h .item .count) in
-      verdict-refused s _ n b (read-refused s _ e n b noSheet refl (sheet-made s h r f refl) behind w) refl

@@ -75,24 +75,16 @@ pub fn read_sheet(image: &[u8]) -> SheetRead
     }
 }
 
-// Reads the rules without keeping them, so that no sheet is filled.
 pub fn check_sheet(image: &[u8]) -> Verdict
     ensures { λ r. ⌜ r ≡ verdictOn (now (image .entry)) ⌝ }
 {
-    let h = sheet::header(image);
-    let head = h.item;
-    let count = head.count;
-    let edition = head.edition;
-    let mut p = h.place;
-    let mut i: usize = 0;
-    while i < count {
-        let r = rule_lists::rule::rule(image, p, edition);
-        p = r.place;
-        i += 1;
-    }
-    let end = fill::filled(image, p);
+    let r = read_sheet(image);
+    let end = r.end;
     match end {
-        Place::At(_) => Verdict::Accepted(count),
+        Place::At(_) => {
+            let sheet = r.sheet;
+            Verdict::Accepted(sheet.count)
+        }
         Place::Refused(n, b) => Verdict::Refused(n, b),
     }
 }
