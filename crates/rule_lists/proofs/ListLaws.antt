@@ -79,5 +79,5 @@ begun-none f room p w count = record { is = refl; near = omega arith; most = ome
 pub above : (n : ℕ) → (n ≡ 0 → ⊥) → 0 < n
 above n h = omega arith
 
-pub taken-none : {A : Type 0} (item : A) (read : Place → Read A) (at most : ℕ) → Taken item 0 read at most
-taken-none item read at most = record { is = λ h. absurd (omega arith); top = omega arith }
+pub taken-none : {A : Type 0} (item : A) (n : ℕ) (read : Place → Read A) (at most : ℕ) → n ≡ 0 → Taken item n read at most
+taken-none item n read at most e = record { is = λ h. absurd (omega arith); top = omega arith }

@@ -1,13 +1,17 @@
 // The front of a counted list, of items that lie whole in the image and keep their limits: each is judged and taken out of a word at once. It ends before
 // the first item that does not, and the list goes on from there field by field.
+ghost use mathlib.Core.Path.{_≡_};
 ghost use Prim.Native.Nat.{_+_, _/_, _<_, _≤_, _^_};
 ghost use lib.ListN.{length};
 ghost use Rattle.bits.specs.Place.{bitOf};
 ghost use Rattle.rule_lists.specs.RuleAt.{yearsAt, monthdaysAt, weeksAt, weekdaysAt, spansAt};
+ghost use Rattle.rules.specs.declared.Monthday.the-variants.{Dates};
 ghost use Rattle.rule_items.specs.Dates.{monthdayAt};
 ghost use Rattle.rule_items.specs.Spans.{spanAt};
 ghost use Rattle.rule_lists.specs.Listed.{Taken, Begun};
 use bits::Place;
+use rules::Date;
+use rules::DateOffset;
 use rules::Monthday;
 use rules::MonthdayItem;
 use rules::Time;
@@ -27,11 +31,7 @@ pub fn years(image: &[u8], place: Place, count: usize) -> YearsAhead
     requires { ⌜ (bitOf place < 2 ^ 25) × (count ≤ 8) ⌝ }
     ensures { λ r. ⌜ Begun (r .items) (r .place) (r .done) (yearsAt (now (image .entry))) place 42 count ⌝ }
 {
-    let none = YearItem {
-        start: 0,
-        end: 0,
-        step: 0,
-    };
+    let none = rules::no_year();
     let mut items = [none; 8];
     let Place::At(at) = place else {
         return YearsAhead {
@@ -44,11 +44,7 @@ pub fn years(image: &[u8], place: Place, count: usize) -> YearsAhead
     let mut i: usize = 0;
     while i < count {
         if p / 8 + 8 > image.len() {
-            return YearsAhead {
-                items: items,
-                place: Place::At(p),
-                done: i,
-            };
+            break;
         }
         let w = bits::ahead(image, p);
         if rule_words::years::year_good(w) {
@@ -56,11 +52,7 @@ pub fn years(image: &[u8], place: Place, count: usize) -> YearsAhead
             items[i] = item;
             p += 42;
         } else {
-            return YearsAhead {
-                items: items,
-                place: Place::At(p),
-                done: i,
-            };
+            break;
         }
         i += 1;
     }
@@ -79,45 +71,49 @@ pub struct MonthdaysAhead {
 
 // A pair of dates whose fields keep their limits, and its width; else the width is 0.
 pub struct DatesTaken {
-    pub item: MonthdayItem,
+    pub start: DateOffset,
+    pub end: DateOffset,
     pub width: usize,
+}
+
+fn no_dates() -> DatesTaken
+    ensures { λ r. ⌜ r .width ≡ 0 ⌝ }
+{
+    let none = DateOffset {
+        date: Date::Easter { year: 0 },
+        offset: 0,
+    };
+    DatesTaken {
+        start: none,
+        end: none,
+        width: 0,
+    }
 }
 
 fn dates(image: &[u8], at: usize, edition: u32) -> DatesTaken
     requires { ⌜ (at / 8 + 13 ≤ length (now image)) × (at < 2 ^ 26) ⌝ }
-    ensures { λ r. ⌜ Taken (r .item) (r .width) (monthdayAt (now (image .entry)) edition) at 78 ⌝ }
+    ensures { λ r. ⌜ Taken (record { form = Dates (r .start) (r .end) }) (r .width) (monthdayAt (now (image .entry)) edition) at 78 ⌝ }
 {
-    let none = MonthdayItem {
-        form: Monthday::Months { start: 0, end: 0 },
-    };
     let w = bits::ahead(image, at);
-    let t = (w >> 62) % 4;
-    if t == 2 {
-        let a = bits::ahead(image, at + 2);
-        let n = rule_words::dates::date_offset_width(a);
-        if n == 0 {
-            return DatesTaken {
-                item: none,
-                width: 0,
-            };
-        }
-        let b = bits::ahead(image, at + 2 + n);
-        let m = rule_words::dates::date_offset_width(b);
-        if m == 0 {
-            return DatesTaken {
-                item: none,
-                width: 0,
-            };
-        }
-        let item = rule_words::dates::dates_of(a, n, b, m);
-        return DatesTaken {
-            item: item,
-            width: 2 + n + m,
-        };
+    if (w >> 62) % 4 != 2 {
+        return no_dates();
     }
+    let a = rule_words::dates::date_offset(bits::ahead(image, at + 2));
+    let n = a.width;
+    if n == 0 {
+        return no_dates();
+    }
+    let b = rule_words::dates::date_offset(bits::ahead(image, at + 2 + n));
+    let m = b.width;
+    if m == 0 {
+        return no_dates();
+    }
+    let start = a.item;
+    let end = b.item;
     DatesTaken {
-        item: none,
-        width: 0,
+        start: start,
+        end: end,
+        width: 2 + n + m,
     }
 }
 
@@ -125,9 +121,7 @@ pub fn monthdays(image: &[u8], place: Place, count: usize, edition: u32) -> Mont
     requires { ⌜ (bitOf place < 2 ^ 25) × (count ≤ 8) ⌝ }
     ensures { λ r. ⌜ Begun (r .items) (r .place) (r .done) (monthdaysAt (now (image .entry)) edition) place 78 count ⌝ }
 {
-    let none = MonthdayItem {
-        form: Monthday::Months { start: 0, end: 0 },
-    };
+    let none = rules::no_monthday();
     let mut items = [none; 8];
     let Place::At(at) = place else {
         return MonthdaysAhead {
@@ -140,22 +134,18 @@ pub fn monthdays(image: &[u8], place: Place, count: usize, edition: u32) -> Mont
     let mut i: usize = 0;
     while i < count {
         if p / 8 + 13 > image.len() {
-            return MonthdaysAhead {
-                items: items,
-                place: Place::At(p),
-                done: i,
-            };
+            break;
         }
         let t = dates(image, p, edition);
+        let start = t.start;
+        let end = t.end;
         let n = t.width;
         if n == 0 {
-            return MonthdaysAhead {
-                items: items,
-                place: Place::At(p),
-                done: i,
-            };
+            break;
         }
-        let item = t.item;
+        let item = MonthdayItem {
+            form: Monthday::Dates { start, end },
+        };
         items[i] = item;
         p += n;
         i += 1;
@@ -177,11 +167,7 @@ pub fn weeks(image: &[u8], place: Place, count: usize) -> WeeksAhead
     requires { ⌜ (bitOf place < 2 ^ 25) × (count ≤ 8) ⌝ }
     ensures { λ r. ⌜ Begun (r .items) (r .place) (r .done) (weeksAt (now (image .entry))) place 18 count ⌝ }
 {
-    let none = WeekItem {
-        start: 0,
-        end: 0,
-        step: 0,
-    };
+    let none = rules::no_week();
     let mut items = [none; 8];
     let Place::At(at) = place else {
         return WeeksAhead {
@@ -194,11 +180,7 @@ pub fn weeks(image: &[u8], place: Place, count: usize) -> WeeksAhead
     let mut i: usize = 0;
     while i < count {
         if p / 8 + 8 > image.len() {
-            return WeeksAhead {
-                items: items,
-                place: Place::At(p),
-                done: i,
-            };
+            break;
         }
         let w = bits::ahead(image, p);
         if rule_words::years::week_good(w) {
@@ -206,11 +188,7 @@ pub fn weeks(image: &[u8], place: Place, count: usize) -> WeeksAhead
             items[i] = item;
             p += 18;
         } else {
-            return WeeksAhead {
-                items: items,
-                place: Place::At(p),
-                done: i,
-            };
+            break;
         }
         i += 1;
     }
@@ -231,12 +209,7 @@ pub fn weekdays(image: &[u8], place: Place, count: usize) -> WeekdaysAhead
     requires { ⌜ (bitOf place < 2 ^ 25) × (count ≤ 8) ⌝ }
     ensures { λ r. ⌜ Begun (r .items) (r .place) (r .done) (weekdaysAt (now (image .entry))) place 27 count ⌝ }
 {
-    let none = WeekdayItem {
-        form: WeekdayRange::Holiday {
-            school: false,
-            offset: 0,
-        },
-    };
+    let none = rules::no_weekday();
     let mut items = [none; 8];
     let Place::At(at) = place else {
         return WeekdaysAhead {
@@ -249,20 +222,12 @@ pub fn weekdays(image: &[u8], place: Place, count: usize) -> WeekdaysAhead
     let mut i: usize = 0;
     while i < count {
         if p / 8 + 8 > image.len() {
-            return WeekdaysAhead {
-                items: items,
-                place: Place::At(p),
-                done: i,
-            };
+            break;
         }
         let w = bits::ahead(image, p);
         let n = rule_words::weekdays::weekday_width(w);
         if n == 0 {
-            return WeekdaysAhead {
-                items: items,
-                place: Place::At(p),
-                done: i,
-            };
+            break;
         }
         let item = rule_words::weekdays::weekday_of(w);
         items[i] = item;
@@ -323,10 +288,7 @@ pub fn spans(image: &[u8], place: Place, count: usize) -> SpansAhead
     requires { ⌜ (bitOf place < 2 ^ 25) × (count ≤ 8) ⌝ }
     ensures { λ r. ⌜ Begun (r .items) (r .place) (r .done) (spansAt (now (image .entry))) place 30 count ⌝ }
 {
-    let none = TimeSpan {
-        start: Time::Fixed(0),
-        end: Time::Fixed(0),
-    };
+    let none = rules::no_span();
     let mut items = [none; 8];
     let Place::At(at) = place else {
         return SpansAhead {
@@ -339,20 +301,12 @@ pub fn spans(image: &[u8], place: Place, count: usize) -> SpansAhead
     let mut i: usize = 0;
     while i < count {
         if p / 8 + 10 > image.len() {
-            return SpansAhead {
-                items: items,
-                place: Place::At(p),
-                done: i,
-            };
+            break;
         }
         let t = span(image, p);
         let n = t.width;
         if n == 0 {
-            return SpansAhead {
-                items: items,
-                place: Place::At(p),
-                done: i,
-            };
+            break;
         }
         let item = t.item;
         items[i] = item;

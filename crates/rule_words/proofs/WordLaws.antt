@@ -22,7 +22,7 @@ use Rattle.rules.specs.declared.YearItem.{YearItem}
 use Rattle.rules.specs.declared.WeekItem.{WeekItem}
 use Rattle.rules.specs.declared.Date.{Date}
 use Rattle.rules.specs.declared.Date.the-variants as date
-use Rattle.rules.specs.declared.MonthdayItem.{MonthdayItem}
+use Rattle.rules.specs.declared.Monthday.the-variants.{Dates}
 use Rattle.rules.specs.declared.WeekdayItem.{WeekdayItem}
 use Rattle.rules.specs.declared.WeekdayRange.the-variants as range
 use Rattle.rules.specs.declared.Time.{Time}
@@ -35,7 +35,8 @@ use Rattle.rule_items.specs.Weekdays.{fixedWeekdays, holidayForm, weekdayForm, 
 use Rattle.rule_items.specs.Spans.{fixedTime, variableTime, timeForm, timeAt, spanAt}
 use Rattle.rule_items.proofs.ItemLaws.{year-made, week-made, flagged-made, fixed-made, easter-made, dates-made, fixed-time-made, span-made}
 use Rattle.rule_words.specs.Words.{yearGood, yearOf, weekGood, weekOf, weekdaysGood, holidayGood, weekdayWidth, weekdayOf, timeWidth, timeOf, spanOf}
-use Rattle.rule_words.specs.Words.{flaggedGood, fixedGood, nthGood, dateWidth, dateOf, offsetWidth, dateOffsetWidth, dateOffsetOf, datesOf}
+use Rattle.rule_words.specs.Words.{flaggedGood, fixedGood, nthGood, offsetGood, noDate, fixedTaken, nthTaken, easterTaken, dateTaken}
+use Rattle.rule_words.specs.declared.DateTaken.{DateTaken}
 
 -- three tests in a row
 pub three : (a b z x y r : Bool) → x ≡ a → x ≡ true → y ≡ b → y ≡ true → r ≡ z → r ≡ (a && (b && z))
@@ -60,24 +61,37 @@ chosen : (g : Bool) (k n : ℕ) → n ≡ cond g k 0 → 0 < n → (g ≡ true) 
 chosen true k n e h = (refl, e)
 chosen false k n e h = absurd (omega arith)
 
-either : (a : Bool) (n m k : ℕ) → n ≤ k → m ≤ k → cond a n m ≤ k
-either true n m k h l = h
-either false n m k h l = l
+-- a date above width 0 is one that was judged good
+date-chosen : (g : Bool) (t r : DateTaken) → r ≡ cond g t noDate → 0 < r .width → (g ≡ true) × (r ≡ t)
+date-chosen true t r e h = (refl, e)
+date-chosen false t r e h = absurd (omega (arith, ap (λ (x : DateTaken). x .width) e))
 
--- no date has more than 28 bits
-pub date-top : (w : ℕ) → dateWidth w ≤ 28
-unfolding dateWidth
-date-top w =
-    either (eqb (part w 62 2) 0) _ _ 28 (either (fixedGood w) 26 0 28 (omega arith) (omega arith))
-    (either (eqb (part w 62 2) 1) _ _ 28 (either (nthGood w) 28 0 28 (omega arith) (omega arith))
-    (either (eqb (part w 62 2) 2) _ _ 28 (either (flaggedGood w) 17 0 28 (omega arith) (omega arith)) (omega arith)))
+-- no date with its offset has more than 38 bits
+narrow : (g : Bool) (t : DateTaken) → t .width ≤ 38 → cond g t noDate .width ≤ 38
+narrow true t h = h
+narrow false t h = omega arith
 
--- and with an offset not more than 38
-pub offset-top : (w : ℕ) → dateOffsetWidth w ≤ 38
-unfolding offsetWidth
-offset-top w =
-    either (eqb (dateWidth w) 0) 0 _ 38 (omega arith)
-    (either (atMost 366 (signedOf 1024 (part w (54 - dateWidth w) 10))) (dateWidth w + 10) 0 38 (omega (arith, date-top w)) (omega arith))
+fixed-top : (w : ℕ) → fixedTaken w .width ≤ 38
+unfolding fixedTaken
+fixed-top w = narrow (fixedGood w && offsetGood w 28) (record { item = _; width = 36 }) (omega arith)
+
+nth-top : (w : ℕ) → nthTaken w .width ≤ 38
+unfolding nthTaken
+nth-top w = narrow (nthGood w && offsetGood w 26) (record { item = _; width = 38 }) (omega arith)
+
+easter-top : (w : ℕ) → easterTaken w .width ≤ 38
+unfolding easterTaken
+easter-top w = narrow (flaggedGood w && offsetGood w 37) (record { item = _; width = 27 }) (omega arith)
+
+either : (a : Bool) (t u : DateTaken) → t .width ≤ 38 → u .width ≤ 38 → cond a t u .width ≤ 38
+either true t u h l = h
+either false t u h l = l
+
+pub date-top : (w : ℕ) (r : DateTaken) → r ≡ dateTaken w → r .width ≤ 38
+unfolding dateTaken
+date-top w r e =
+    rw e
+    (either (eqb (part w 62 2) 0) _ _ (fixed-top w) (either (eqb (part w 62 2) 1) _ _ (nth-top w) (either (eqb (part w 62 2) 2) _ noDate (easter-top w) (omega arith))))
 
 part-lt : (w d f : ℕ) → part w d f < 2 ^ f
 part-lt w d f = mod-lt (w / 2 ^ d) (pow-pos f)
@@ -263,57 +277,38 @@ module _ (s : List ℕ) (at w : ℕ) (x : Front s at w) where
   easter-ahead : flaggedGood w ≡ true → record { item = date.Easter (part w 47 14); place = At (at + 17) } ≡ easterDate s (At (at + 2))
   easter-ahead g = let q : at + 17 ≡ at + 2 + 1 + 14 = omega arith in rw q (easter-made s (At (at + 2)) _ (flagged-ahead g))
 
-  date-ahead : (n : ℕ) → n ≡ dateWidth w → 0 < n → record { item = dateOf w; place = At (at + n) } ≡ dateAt s (At at)
-  unfolding dateWidth dateOf dateAt
-  date-ahead n e h = by (eqb (part w 62 2) 0) (eqb (part w 62 2) 1) (eqb (part w 62 2) 2) refl refl refl e
-    where
-      form : (t : ℕ) (r : Read Date) → part w 62 2 ≡ t → t ≤ 2 → r ≡ dateForm s t (At (at + 2)) → r ≡ dateForm s (numberAt s (At at) 2 0 2 2 .item) (numberAt s (At at) 2 0 2 2 .place)
-      form t r i l j =
-          j ∙ ap (λ (k : ℕ). dateForm s k (At (at + 2))) (sym i) ∙ ap (λ (k : Read ℕ). dateForm s (k .item) (k .place)) (tag-two (omega arith))
+  -- a date with its tag, and the offset behind its k bits
+  behind : (edition k d : ℕ) (a : Date) → k + 10 + d ≡ 64 → k ≤ 28 → record { item = a; place = At (at + k) } ≡ dateAt s (At at) → offsetGood w d ≡ true
+      → record { item = record { date = a; offset = signedOf 1024 (part w d 10) }; place = At (at + (k + 10)) } ≡ dateOffset s edition (At at)
+  behind edition k d a e l f g =
+      let q : at + (k + 10) ≡ at + k + 10 = omega arith in
+      rw q (offset-put s (At at) edition _ _ f (signed-ahead s at w x k 10 d (omega arith) (omega arith) (at + k) refl 366 (leb-true _ _ g)))
 
+  form : (t : ℕ) (r : Read Date) → part w 62 2 ≡ t → t ≤ 2 → r ≡ dateForm s t (At (at + 2)) → r ≡ dateAt s (At at)
+  unfolding dateAt
+  form t r i l j =
+      j ∙ ap (λ (k : ℕ). dateForm s k (At (at + 2))) (sym i) ∙ ap (λ (k : Read ℕ). dateForm s (k .item) (k .place)) (tag-two (omega arith))
+
+  pub date-ahead : (edition : ℕ) (r : DateTaken) → r ≡ dateTaken w → 0 < r .width → record { item = r .item; place = At (at + r .width) } ≡ dateOffset s edition (At at)
+  unfolding dateTaken fixedTaken nthTaken easterTaken
+  date-ahead edition r e h = by (eqb (part w 62 2) 0) (eqb (part w 62 2) 1) (eqb (part w 62 2) 2) refl refl refl e
+    where
       by : (a b c : Bool) → eqb (part w 62 2) 0 ≡ a → eqb (part w 62 2) 1 ≡ b → eqb (part w 62 2) 2 ≡ c
-          → n ≡ cond a (cond (fixedGood w) 26 0) (cond b (cond (nthGood w) 28 0) (cond c (cond (flaggedGood w) 17 0) 0))
-          → record {
-            item = cond a (date.Fixed (part w 47 14) (part w 43 4) (part w 38 5))
-                (cond b (date.Weekday (part w 47 14) (part w 43 4) (part w 40 3) (signedOf 16 (part w 36 4))) (date.Easter (part w 47 14)));
-            place = At (at + n);
-          } ≡ dateForm s (numberAt s (At at) 2 0 2 2 .item) (numberAt s (At at) 2 0 2 2 .place)
-      by true b c i j k f = let d = chosen (fixedGood w) 26 n f h in form 0 _ (eqb-true _ _ i) (omega arith) (rw (d .1) (fixed-ahead (d .0)))
-      by false true c i j k f = let d = chosen (nthGood w) 28 n f h in form 1 _ (eqb-true _ _ j) (omega arith) (rw (d .1) (nth-ahead (d .0)))
-      by false false true i j k f = let d = chosen (flaggedGood w) 17 n f h in form 2 _ (eqb-true _ _ k) (omega arith) (rw (d .1) (easter-ahead (d .0)))
-      by false false false i j k f = absurd (omega arith)
-
-  -- the offset stands behind the k bits of the date
-  offset-behind : (edition k m : ℕ) → k ≡ dateWidth w → m ≡ offsetWidth w k → 0 < m → record { item = dateOffsetOf w m; place = At (at + m) } ≡ dateOffset s edition (At at)
-  unfolding offsetWidth dateOffsetOf
-  offset-behind edition k m e f h = by (eqb k 0) refl f
-    where
-      by : (b : Bool) → eqb k 0 ≡ b → m ≡ cond b 0 (cond (atMost 366 (signedOf 1024 (part w (54 - k) 10))) (k + 10) 0)
-          → record { item = record { date = dateOf w; offset = signedOf 1024 (part w (64 - m) 10) }; place = At (at + m) } ≡ dateOffset s edition (At at)
-      by true i j = absurd (omega arith)
-      by false i j =
-          let c = chosen (atMost 366 (signedOf 1024 (part w (54 - k) 10))) (k + 10) m j h in
-          let z : 0 < k = above k (eqb-false k 0 i) in
-          let t : k ≤ 28 = omega (arith, date-top w) in
-          let p : 64 - m ≡ 54 - k = omega (arith, c .1) in
-          let q : at + m ≡ at + k + 10 = omega (arith, c .1) in
-          rw (p, q)
-          (offset-put s (At at) edition _ _ (date-ahead k e z) (signed-ahead s at w x k 10 (54 - k) (omega arith) (omega arith) (at + k) refl 366 (leb-true _ _ (c .0))))
-        where
-          above : (n : ℕ) → (n ≡ 0 → ⊥) → 0 < n
-          above n g = omega arith
-
-  pub offset-ahead : (edition m : ℕ) → m ≡ dateOffsetWidth w → 0 < m → record { item = dateOffsetOf w m; place = At (at + m) } ≡ dateOffset s edition (At at)
-  offset-ahead edition m e h = offset-behind edition (dateWidth w) m refl e h
-
--- a width above 0 holds at least the offset
-pub offset-low : (w m : ℕ) → m ≡ dateOffsetWidth w → 0 < m → 10 ≤ m
-unfolding offsetWidth
-offset-low w m e h = by (eqb (dateWidth w) 0) e
-  where
-    by : (b : Bool) → m ≡ cond b 0 (cond (atMost 366 (signedOf 1024 (part w (54 - dateWidth w) 10))) (dateWidth w + 10) 0) → 10 ≤ m
-    by true f = absurd (omega arith)
-    by false f = let c = chosen (atMost 366 (signedOf 1024 (part w (54 - dateWidth w) 10))) (dateWidth w + 10) m f h in omega (arith, c .1)
+          → r ≡ cond a (fixedTaken w) (cond b (nthTaken w) (cond c (easterTaken w) noDate))
+          → record { item = r .item; place = At (at + r .width) } ≡ dateOffset s edition (At at)
+      by true b c i j k f =
+          let d = date-chosen _ _ r f h in
+          let g = both _ _ (d .0) in
+          rw (d .1) (behind edition 26 28 _ (omega arith) (omega arith) (form 0 _ (eqb-true _ _ i) (omega arith) (fixed-ahead (g .0))) (g .1))
+      by false true c i j k f =
+          let d = date-chosen _ _ r f h in
+          let g = both _ _ (d .0) in
+          rw (d .1) (behind edition 28 26 _ (omega arith) (omega arith) (form 1 _ (eqb-true _ _ j) (omega arith) (nth-ahead (g .0))) (g .1))
+      by false false true i j k f =
+          let d = date-chosen _ _ r f h in
+          let g = both _ _ (d .0) in
+          rw (d .1) (behind edition 17 37 _ (omega arith) (omega arith) (form 2 _ (eqb-true _ _ k) (omega arith) (easter-ahead (g .0))) (g .1))
+      by false false false i j k f = absurd (omega (arith, ap (λ (z : DateTaken). z .width) f))
 
 -- two times, the second behind the first
 pub span-ahead : (s : List ℕ) (at w v n m : ℕ) → Front s at w → n ≡ timeWidth w → 0 < n → Front s (at + n) v → m ≡ timeWidth v → 0 < m
@@ -322,11 +317,12 @@ unfolding spanOf
 span-ahead s at w v n m x e h y f i = span-made s (At at) _ _ (time-ahead s at w x n e h) (time-ahead s (at + n) v y m f i)
 
 -- tag 2 and two dates, the second behind the first
-pub dates-ahead : (s : List ℕ) (edition at w u v n m : ℕ) → Front s at w → part w 62 2 ≡ 2 → Front s (at + 2) u → n ≡ dateOffsetWidth u → 0 < n
-    → Front s (at + 2 + n) v → m ≡ dateOffsetWidth v → 0 < m → record { item = datesOf u n v m; place = At (at + 2 + n + m) } ≡ monthdayAt s edition (At at)
-unfolding datesOf monthdayAt
-dates-ahead s edition at w u v n m x t y e h z f i =
-    dates-made s (At (at + 2)) edition _ _ (offset-ahead s (at + 2) u y edition n e h) (offset-ahead s (at + 2 + n) v z edition m f i)
+pub dates-ahead : (s : List ℕ) (edition at w u v : ℕ) (a b : DateTaken) → Front s at w → part w 62 2 ≡ 2 → Front s (at + 2) u → a ≡ dateTaken u → 0 < a .width
+    → Front s (at + 2 + a .width) v → b ≡ dateTaken v → 0 < b .width
+    → record { item = record { form = Dates (a .item) (b .item) }; place = At (at + 2 + a .width + b .width) } ≡ monthdayAt s edition (At at)
+unfolding monthdayAt
+dates-ahead s edition at w u v a b x t y e h z f i =
+    dates-made s (At (at + 2)) edition _ _ (date-ahead s (at + 2) u y edition a e h) (date-ahead s (at + 2 + a .width) v z edition b f i)
     ∙ ap (λ (k : ℕ). monthdayForm s edition k (At (at + 2))) (sym t)
     ∙ ap (λ (k : Read ℕ). monthdayForm s edition (k .item) (k .place)) (tag-two s at w x (omega arith))
 
@@ -347,9 +343,9 @@ module _ (s : List ℕ) (at w : ℕ) (h : at / 8 + 8 ≤ length s) (e : w ≡ ah
       let q : at + (n + m) ≡ at + n + m = omega arith in
       rw (p, q) (span-ahead s at w v n m (front s at w h e) j k (front s (at + n) v i f) l o)
 
-  pub dates-found : (edition u v n m : ℕ) (r : MonthdayItem) → part w 62 2 ≡ 2 → (at + 2) / 8 + 8 ≤ length s → u ≡ aheadOf s (at + 2) → (at + 2 + n) / 8 + 8 ≤ length s
-      → v ≡ aheadOf s (at + 2 + n) → n ≡ dateOffsetWidth u → 0 < n → m ≡ dateOffsetWidth v → 0 < m → r ≡ datesOf u n v m
-      → record { item = r; place = At (at + (2 + n + m)) } ≡ monthdayAt s edition (At at)
-  dates-found edition u v n m r t i f j g k l o p c =
-      let q : at + (2 + n + m) ≡ at + 2 + n + m = omega arith in
-      rw (c, q) (dates-ahead s edition at w u v n m (front s at w h e) t (front s (at + 2) u i f) k l (front s (at + 2 + n) v j g) o p)
+  pub dates-found : (edition u v : ℕ) (a b : DateTaken) → part w 62 2 ≡ 2 → (at + 2) / 8 + 8 ≤ length s → u ≡ aheadOf s (at + 2) → a ≡ dateTaken u → 0 < a .width
+      → (at + 2 + a .width) / 8 + 8 ≤ length s → v ≡ aheadOf s (at + 2 + a .width) → b ≡ dateTaken v → 0 < b .width
+      → record { item = record { form = Dates (a .item) (b .item) }; place = At (at + (2 + a .width + b .width)) } ≡ monthdayAt s edition (At at)
+  dates-found edition u v a b t i f k l j g o p =
+      let q : at + (2 + a .width + b .width) ≡ at + 2 + a .width + b .width = omega arith in
+      rw q (dates-ahead s edition at w u v a b (front s at w h e) t (front s (at + 2) u i f) k l (front s (at + 2 + a .width) v j g) o p)

@@ -1,22 +1,20 @@
 -- Items at the front of a word of 64 bits: whether each field keeps its limits, how many bits the item has (0 where one does not), and the item.
-use Prim.Native.Nat.{ℕ, _+_, _-_, _*_}
+use Prim.Native.Nat.{ℕ, _*_}
 use mathlib.Core.Bool.{Bool, cond, _&&_}
 use lib.Dec.{leb, eqb}
+use lib.IntN.{pos}
 use Rattle.bits.specs.Bits.{part}
 use Rattle.bits.specs.Place.{within, atMost}
 use Rattle.bits.specs.Signed.{signedOf}
 use Rattle.rules.specs.declared.YearItem.{YearItem}
 use Rattle.rules.specs.declared.WeekItem.{WeekItem}
-use Rattle.rules.specs.declared.Date.{Date}
 use Rattle.rules.specs.declared.Date.the-variants as date
-use Rattle.rules.specs.declared.DateOffset.{DateOffset}
-use Rattle.rules.specs.declared.Monthday.the-variants.{Dates}
-use Rattle.rules.specs.declared.MonthdayItem.{MonthdayItem}
 use Rattle.rules.specs.declared.WeekdayItem.{WeekdayItem}
 use Rattle.rules.specs.declared.WeekdayRange.the-variants as range
 use Rattle.rules.specs.declared.Time.{Time}
 use Rattle.rules.specs.declared.Time.the-variants as time
 use Rattle.rules.specs.declared.TimeSpan.{TimeSpan}
+use Rattle.rule_words.specs.declared.DateTaken.{DateTaken}
 
 -- start 14, end 14, step 14
 unfoldable pub yearGood : ℕ → Bool
@@ -72,27 +70,37 @@ fixedGood w = flaggedGood w && (within 1 12 (part w 43 4) && within 1 31 (part w
 unfoldable pub nthGood : ℕ → Bool
 nthGood w = flaggedGood w && (within 1 12 (part w 43 4) && within 0 6 (part w 40 3))
 
-unfoldable pub dateWidth : ℕ → ℕ
-dateWidth w =
-    cond (eqb (part w 62 2) 0) (cond (fixedGood w) 26 0)
-    (cond (eqb (part w 62 2) 1) (cond (nthGood w) 28 0) (cond (eqb (part w 62 2) 2) (cond (flaggedGood w) 17 0) 0))
+-- offset 10, with d bits behind it
+abbrev pub offsetGood : ℕ → ℕ → Bool
+offsetGood w d = atMost 366 (signedOf 1024 (part w d 10))
 
-unfoldable pub dateOf : ℕ → Date
-dateOf w =
-    cond (eqb (part w 62 2) 0) (date.Fixed (part w 47 14) (part w 43 4) (part w 38 5))
-    (cond (eqb (part w 62 2) 1) (date.Weekday (part w 47 14) (part w 43 4) (part w 40 3) (signedOf 16 (part w 36 4))) (date.Easter (part w 47 14)))
+-- nothing taken: the width is 0
+abbrev pub noDate : DateTaken
+noDate = record { item = record { date = date.Easter 0; offset = pos 0 }; width = 0 }
 
--- a date, offset 10
-unfoldable pub offsetWidth : ℕ → ℕ → ℕ
-offsetWidth w n = cond (eqb n 0) 0 (cond (atMost 366 (signedOf 1024 (part w (54 - n) 10))) (n + 10) 0)
+-- each form of a date, its offset behind it
+unfoldable pub fixedTaken : ℕ → DateTaken
+fixedTaken w =
+    cond (fixedGood w && offsetGood w 28)
+    (record { item = record { date = date.Fixed (part w 47 14) (part w 43 4) (part w 38 5); offset = signedOf 1024 (part w 28 10) }; width = 36 }) noDate
 
-abbrev pub dateOffsetWidth : ℕ → ℕ
-dateOffsetWidth w = offsetWidth w (dateWidth w)
+unfoldable pub nthTaken : ℕ → DateTaken
+nthTaken w =
+    cond (nthGood w && offsetGood w 26)
+    (record {
+      item = record {
+        date = date.Weekday (part w 47 14) (part w 43 4) (part w 40 3) (signedOf 16 (part w 36 4));
+        offset = signedOf 1024 (part w 26 10);
+      };
+      width = 38;
+    }) noDate
 
--- the same of n bits
-unfoldable pub dateOffsetOf : ℕ → ℕ → DateOffset
-dateOffsetOf w n = record { date = dateOf w; offset = signedOf 1024 (part w (64 - n) 10) }
+unfoldable pub easterTaken : ℕ → DateTaken
+easterTaken w =
+    cond (flaggedGood w && offsetGood w 37) (record { item = record { date = date.Easter (part w 47 14); offset = signedOf 1024 (part w 37 10) }; width = 27 })
+    noDate
 
--- two of them, each at the front of a word of its own
-unfoldable pub datesOf : ℕ → ℕ → ℕ → ℕ → MonthdayItem
-datesOf w n v m = record { form = Dates (dateOffsetOf w n) (dateOffsetOf v m) }
+-- tag 2: 0 fixed, 1 nth weekday, 2 Easter
+unfoldable pub dateTaken : ℕ → DateTaken
+dateTaken w =
+    cond (eqb (part w 62 2) 0) (fixedTaken w) (cond (eqb (part w 62 2) 1) (nthTaken w) (cond (eqb (part w 62 2) 2) (easterTaken w) noDate))

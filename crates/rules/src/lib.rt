@@ -1,7 +1,7 @@
 // The rules of a sheet, by value. Counted lists are arrays with a count; what stands behind the count is fixed.
 // A year of 0 is a date without a year.
 ghost use mathlib.Core.Path.{_≡_};
-ghost use Rattle.rules.specs.Nothing.{noRule};
+ghost use Rattle.rules.specs.Nothing.{noYear, noMonthday, noWeek, noWeekday, noSpan, noRule};
 
 // What a rule does to the evaluation of the rules before it.
 pub enum Operator {
@@ -108,33 +108,63 @@ pub struct Sheet {
     pub rules: [Rule; 32],
 }
 
-// What stands behind a sheet's count.
-pub fn no_rule() -> Rule
-    ensures { λ r. ⌜ r ≡ noRule ⌝ }
+// What stands behind the counts.
+pub fn no_year() -> YearItem
+    ensures { λ r. ⌜ r ≡ noYear ⌝ }
 {
-    let year = YearItem {
+    YearItem {
         start: 0,
         end: 0,
         step: 0,
-    };
-    let monthday = MonthdayItem {
+    }
+}
+
+pub fn no_monthday() -> MonthdayItem
+    ensures { λ r. ⌜ r ≡ noMonthday ⌝ }
+{
+    MonthdayItem {
         form: Monthday::Months { start: 0, end: 0 },
-    };
-    let week = WeekItem {
+    }
+}
+
+pub fn no_week() -> WeekItem
+    ensures { λ r. ⌜ r ≡ noWeek ⌝ }
+{
+    WeekItem {
         start: 0,
         end: 0,
         step: 0,
-    };
-    let weekday = WeekdayItem {
+    }
+}
+
+pub fn no_weekday() -> WeekdayItem
+    ensures { λ r. ⌜ r ≡ noWeekday ⌝ }
+{
+    WeekdayItem {
         form: WeekdayRange::Holiday {
             school: false,
             offset: 0,
         },
-    };
-    let span = TimeSpan {
+    }
+}
+
+pub fn no_span() -> TimeSpan
+    ensures { λ r. ⌜ r ≡ noSpan ⌝ }
+{
+    TimeSpan {
         start: Time::Fixed(0),
         end: Time::Fixed(0),
-    };
+    }
+}
+
+pub fn no_rule() -> Rule
+    ensures { λ r. ⌜ r ≡ noRule ⌝ }
+{
+    let year = no_year();
+    let monthday = no_monthday();
+    let week = no_week();
+    let weekday = no_weekday();
+    let span = no_span();
     Rule {
         operator: Operator::Normal,
         kind: 0,

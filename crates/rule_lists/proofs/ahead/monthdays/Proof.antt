@@ -1,13 +1,12 @@
 -- The loop's invariant: what was set so far is the list of the first i items, and the next begins at p.
 use Prim.Native.Nat.{_<_, _≤_, _-_, _+_, _*_, _^_}
-use mathlib.Core.Path.{_≡_, refl, ap}
+use mathlib.Core.Path.{_≡_, ap}
 use native.Mathlib.Omega.{arith}
 use borrow.Author.Needs.{needs}
 use Rattle.bits.specs.Place.{bitOf}
 use Rattle.bits.specs.declared.Place.the-variants.{At}
-use Rattle.rule_lists.specs.Listed.{listed}
 use Rattle.rule_lists.specs.RuleAt.{monthdaysAt}
-use Rattle.rule_lists.proofs.ListLaws.{listed-step, begun-at, begun-none, above}
+use Rattle.rule_lists.proofs.ListLaws.{listed-step, listed-none, begun-at, begun-none, above}
 use Rattle.rule_lists.proofs.ahead.monthdays.Statement.{statement}
 use Rattle.rule_lists.proofs.ahead.monthdays.Tie as tie
 
@@ -18,6 +17,9 @@ Inv-loop image count edition items₀ at p₀ i₀ items p i =
 abbrev μ-loop : tie.MeasureT-loop
 μ-loop image count edition items₀ at p₀ i₀ items p i = count - i
 
+no-monthday-requires : tie.Need-no-monthday-requires Inv-loop μ-loop
+no-monthday-requires c κs = search needs
+
 enum-known-place : tie.Need-enum-known-place Inv-loop μ-loop
 enum-known-place c = search needs
 
@@ -25,23 +27,16 @@ enum-told : tie.Need-enum-told Inv-loop μ-loop
 enum-told c = search needs
 
 returns : tie.Need-returns Inv-loop μ-loop
-returns c = begun-none _ _ _ _ _
+returns c = rw (c .before .before .no-monthday .ensures) (begun-none _ _ _ _ _)
 
 loop-holds : tie.Need-loop-holds Inv-loop μ-loop
-unfolding listed
-loop-holds c = (search needs, refl, search needs, omega (arith, ap bitOf (c .before .place .given .1)))
+loop-holds c = (search needs, listed-none _ 8 _ _ _ (c .before .before .before .no-monthday .ensures), search needs, omega (arith, ap bitOf (c .before .place .given .1)))
 
 add-if1 : tie.Need-add-if1 Inv-loop μ-loop
 add-if1 c = search needs
 
-returns-2 : tie.Need-returns-2 Inv-loop μ-loop
-returns-2 c = let a = c .before .before in begun-at _ _ _ _ _ _ _ _ (a .before .before .place .given .1) (a .loop .inv .0) (a .loop .inv .1) (a .loop .inv .2)
-
 dates-requires : tie.Need-dates-requires Inv-loop μ-loop
 dates-requires c κs = search needs
-
-returns-3 : tie.Need-returns-3 Inv-loop μ-loop
-returns-3 c = let a = c .before .before .before .before in begun-at _ _ _ _ _ _ _ _ (a .before .before .place .given .1) (a .loop .inv .0) (a .loop .inv .1) (a .loop .inv .2)
 
 mul-items : tie.Need-mul-items Inv-loop μ-loop
 mul-items c = search needs
@@ -60,12 +55,18 @@ loop-less c = search needs
 
 loop-again : tie.Need-loop-again Inv-loop μ-loop
 loop-again c =
-    let a = c .before .before .before .before .before in
-    let t = c .before .before .dates .ensures in
-    (omega arith, listed-step _ _ _ _ _ _ _ (a .loop .inv .1) (t .is (above _ (c .before .if2 .left))), omega (arith, t .top), a .loop .inv .3)
+    let a = c .before .before .before .before .before .before in
+    let t = c .before .before .before .dates .ensures in
+    (omega arith, listed-step _ _ _ _ _ _ _ (a .loop .inv .1) (t .is (above _ (c .if2 .left))), omega (arith, t .top), a .loop .inv .3)
+
+returns-2 : tie.Need-returns-2 Inv-loop μ-loop
+returns-2 c = let a = c .before in begun-at _ _ _ _ _ _ _ _ (a .before .before .place .given .1) (a .loop .inv .0) (a .loop .inv .1) (a .loop .inv .2)
+
+returns-3 : tie.Need-returns-3 Inv-loop μ-loop
+returns-3 c = let a = c .before .before in begun-at _ _ _ _ _ _ _ _ (a .before .before .place .given .1) (a .loop .inv .0) (a .loop .inv .1) (a .loop .inv .2)
 
 returns-4 : tie.Need-returns-4 Inv-loop μ-loop
-returns-4 c = let a = c .before in begun-at _ _ _ _ _ _ _ _ (a .before .before .place .given .1) (a .loop .inv .0) (a .loop .inv .1) (a .loop .inv .2)
+returns-4 c = let a = c .before .before .before .before .before .before in begun-at _ _ _ _ _ _ _ _ (a .before .before .place .given .1) (a .loop .inv .0) (a .loop .inv .1) (a .loop .inv .2)
 
 pub monthdays-spec : {M : Type 1} → statement M
 monthdays-spec =
@@ -73,18 +74,19 @@ monthdays-spec =
     (tie.spec
     Inv-loop
     μ-loop
+    no-monthday-requires
     enum-known-place
     enum-told
     returns
     loop-holds
     add-if1
-    returns-2
     dates-requires
-    returns-3
     mul-items
     array-set-from-items
     add-p
     add-i
     loop-less
     loop-again
+    returns-2
+    returns-3
     returns-4)

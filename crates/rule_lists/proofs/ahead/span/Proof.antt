@@ -1,4 +1,5 @@
 -- Two times, the second behind the first.
+use mathlib.Core.Path.{refl}
 use native.Mathlib.Omega.{arith}
 use borrow.Author.Needs.{needs}
 use Rattle.rule_words.proofs.WordLaws.{span-found}
@@ -13,7 +14,7 @@ time-width-requires : tie.Need-time-width-requires
 time-width-requires c κs = search needs
 
 returns : tie.Need-returns
-returns c = taken-none _ _ _ _
+returns c = taken-none _ _ _ _ _ refl
 
 add-ahead : tie.Need-add-ahead
 add-ahead c = search needs
@@ -25,7 +26,7 @@ time-width-requires-2 : tie.Need-time-width-requires-2
 time-width-requires-2 c κs = search needs
 
 returns-2 : tie.Need-returns-2
-returns-2 c = taken-none _ _ _ _
+returns-2 c = taken-none _ _ _ _ _ refl
 
 span-of-requires : tie.Need-span-of-requires
 span-of-requires c κs = search needs
