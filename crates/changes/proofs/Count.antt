@@ -1,6 +1,6 @@
 -- How many days there are to look at.
 use mathlib.Core.Path.{_≡_, refl}
-use Prim.Native.Nat.{ℕ, _+_, _-_, _≤_, min}
+use Prim.Native.Nat.{ℕ, _-_, _≤_, min}
 use native.Mathlib.Omega.{arith}
 use Rattle.intervals.specs.Intervals.{lastDay}
 use Rattle.changes.specs.Days.{asked, within}
@@ -11,8 +11,8 @@ unfolding within
 within-is days n = refl
 
 -- the days lie before 10000-01-01
-pub within-fits : (days n k : ℕ) → k ≡ within days n → (k ≡ 0 → ⊥) → n + k ≤ lastDay
-within-fits days n k e z = let w = within-is days n in omega arith
+pub within-fits : (days n k : ℕ) → k ≡ within days n → k ≤ lastDay - n
+within-fits days n k e = let w = within-is days n in omega arith
 
 -- and from there on none is left
 pub none-left : (days n : ℕ) → lastDay ≤ n → within days n ≡ 0

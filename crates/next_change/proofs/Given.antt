@@ -14,34 +14,24 @@ use Rattle.listing.specs.Listing.{stateWord}
 use Rattle.reading.specs.Ranging.{Ranged, over64, gives, dayR}
 use Rattle.opening_hours.specs.Rooms.{Answered}
 use Rattle.opening_hours.specs.declared.Evaluated.{Evaluated}
-use Rattle.changes.specs.Search.{Told, tells, other}
+use Rattle.changes.specs.Search.{Told, refuses, tells, other}
 use Rattle.changes.specs.Words.{stateIn, shownIn, Ordered}
 use Rattle.changes.proofs.Minutes.{other-same}
 use Rattle.next_change.specs.Shop.{told}
-use Rattle.next_change.specs.Looking.{Looks, FirstLooks}
+use Rattle.next_change.specs.Looking.{held, from, Given, lookIn, Looks}
+use Rattle.next_change.specs.declared.Look.{Look}
+use Rattle.next_change.specs.declared.Since.{Since}
+use Rattle.next_change.specs.declared.Since.the-variants.{Minute, Before}
 
--- a day that is not refused: its words are in order and show what it tells
-pub record Fine (a : Told) (xs : List ℕ) (count : ℕ) : Type 0 where
-  pub at : ℕ → Shown
-  pub is : a ≡ tells at
-  pub order : Ordered xs count
-  pub same : (t : ℕ) → t < 1440 → shownIn xs count t ≡ at t
+-- an answer is a refusal's, or an evaluation's, whose words agree with the minute reading
+pub given : (f : ℕ → Shown) (xs : List ℕ) (r : Evaluated) (x : Ranged) → Answered x xs r
+    → ((e : Option (List Range)) → x ≡ gives e → (t : ℕ) → t < 1440 → lit (stateAt (dayR e) t) ≡ f t) → Given (told x f) xs r
+given f xs r (over64 k) g a = record { is = g .answer }
+given f xs r (gives e) g a = record { is = (ap (λ (y : Evaluated). y .refusal) (g .answer), λ t h. rw (g .list) (a e refl t h)) }
 
-module _ (f : ℕ → Shown) (xs : List ℕ) (r : Evaluated) where
-  -- an answer with a number is a refusal's, as an evaluation has none
-  pub given-bad : (x : Ranged) → Answered x xs r → (r .refusal ≡ 0 → ⊥) → (s : Shown) (t : ℕ) → Looks (told x f) s t (record { refusal = r .refusal; place = r .place; state = 0; minute = 0 })
-  given-bad (over64 k) g z s t = record { is = rw (g .answer) }
-  given-bad (gives e) g z s t = absurd (z (ap (λ (y : Evaluated). y .refusal) (g .answer)))
-
-  -- and one without is an evaluation's, whose words are in order and agree with the minute reading
-  pub given-fine : (x : Ranged) → Answered x xs r → 192 ≤ length xs → ((e : Option (List Range)) → x ≡ gives e → (t : ℕ) → t < 1440 → lit (stateAt (dayR e) t) ≡ f t) → r .refusal ≡ 0 → Fine (told x f) xs (r .count)
-  given-fine (over64 k) g l a z = absurd (omega (arith, ap (λ (y : Evaluated). y .refusal) (g .answer), z))
-  given-fine (gives e) g l a z = record {
-    at = f;
-    is = refl;
-    order = record { long = omega (arith, g .few); order = g .order };
-    same = λ t h. rw (g .list) (a e refl t h);
-  }
+-- its words are in order
+pub in-order : (x : Ranged) (xs : List ℕ) (r : Evaluated) → Answered x xs r → 192 ≤ length xs → Ordered xs (r .count)
+in-order x xs r g l = record { long = omega (arith, g .few); order = g .order }
 
 -- a word's state is held whole in its low ten bits
 low-bits : (w : ℕ) → stateIn (stateWord (stateIn w)) ≡ stateIn w
@@ -61,18 +51,26 @@ state-back : (l : List ℕ) (t : ℕ) → stateIn (stateWord (lit (stateAt (rang
 state-back [] t = closed-bits
 state-back (w ∷ l) t = by (covers (rangeOf w) t) (λ e. rw e (low-bits w)) (λ e. rw e (state-back l t))
 
-module _ (a : Told) (xs : List ℕ) (count : ℕ) (g : Fine a xs count) where
+module _ (xs : List ℕ) (e : Evaluated) where
+  -- an evaluation with a number is a refused day's
+  pub look-refused : (e .refusal ≡ 0 → ⊥) → (since : Since) (a : Told) → Given a xs e → Looks a (held since a) (from since) (record { refusal = e .refusal; place = e .place; state = 0; minute = 0 })
+  look-refused z since (refuses r) g = record { is = rw (g .is) }
+  look-refused z since (tells f) g = absurd (z (g .is .0))
+
   -- the words' first minute of another state is the day's, as both show the same
-  first-same : (s : Shown) (t x : ℕ) → t ≤ 1440 → x ≡ other (λ u. shownIn xs count u) s t (1440 - t) → x ≡ other (g .at) s t (1440 - t)
-  first-same s t x h e = e ∙ other-same (λ u. shownIn xs count u) (g .at) s (1440 - t) t (λ u i j. g .same u (omega arith))
+  first-same : (f : ℕ → Shown) → Given (tells f) xs e → (s : Shown) (t : ℕ) → t ≤ 1440 → other (λ u. shownIn xs (e .count) u) s t (1440 - t) ≡ other f s t (1440 - t)
+  first-same f g s t h = other-same (λ u. shownIn xs (e .count) u) f s (1440 - t) t (λ u i j. g .is .1 u (omega arith))
 
-  -- so a look at the words is a look at the day
-  pub look-later : (s x : ℕ) → x ≡ other (λ u. shownIn xs count u) (stateIn s) 0 1440 → Looks a (stateIn s) 0 (record { refusal = 0; place = 0; state = s; minute = x })
-  look-later s x e = rw (g .is) (record { is = (refl, refl, refl, first-same (stateIn s) 0 x (omega arith) e) })
+  module _ (z : e .refusal ≡ 0) where
+    -- so a look at the words is a look at the day
+    pub look-later : (since : Since) (s : ℕ) (x : Look) → since ≡ Before s → x ≡ lookIn xs (e .count) s 0 → (a : Told) → Given a xs e → Looks a (held since a) (from since) x
+    look-later since s x v p (refuses r) g = absurd (omega (arith, ap (λ (y : Evaluated). y .refusal) (g .is)))
+    look-later since s x v p (tells f) g = rw (v, p) (record { is = (refl, refl, refl, first-same f g (stateIn s) 0 (omega arith)) })
 
-  -- and from the state at a minute on likewise, since that state is read from the words
-  pub look-now : (t s x : ℕ) → t < 1440 → s ≡ stateWord (shownIn xs count t) → x ≡ other (λ u. shownIn xs count u) (stateIn s) (t + 1) (1440 - (t + 1))
-      → FirstLooks a t (record { refusal = 0; place = 0; state = s; minute = x })
-  look-now t s x h e p =
-      let q : stateIn s ≡ g .at t = rw e (state-back (take count xs) t) ∙ g .same t h in
-      rw (g .is) (record { is = (refl, refl, q, rw q at (first-same (stateIn s) (t + 1) x (omega arith) p)) })
+    -- and behind a minute likewise, since the state at it is read from the words
+    pub look-now : (since : Since) (t s : ℕ) (x : Look) → since ≡ Minute t → from since ≤ 1440 → s ≡ stateWord (shownIn xs (e .count) t) → x ≡ lookIn xs (e .count) s (t + 1) → (a : Told) → Given a xs e → Looks a (held since a) (from since) x
+    look-now since t s x v h w p (refuses r) g = absurd (omega (arith, ap (λ (y : Evaluated). y .refusal) (g .is)))
+    look-now since t s x v h w p (tells f) g =
+        let k : t + 1 ≤ 1440 = rw v at h in
+        let q : stateIn s ≡ f t = rw w (state-back (take (e .count) xs) t) ∙ g .is .1 t (omega arith) in
+        rw (v, p) (record { is = (refl, refl, q, rw q (first-same f g (f t) (t + 1) k)) })

@@ -4,6 +4,5 @@ pub mod Given
 pub mod Shops
 pub mod Resting
 pub mod Walking
-pub mod FirstDay
 pub mod Starting
 pub mod Meaning

@@ -1,5 +1,5 @@
 -- From the question to the first day and the number of days.
-use mathlib.Core.Path.{_≡_, sym, ap, _∙_}
+use mathlib.Core.Path.{_≡_, sym, _∙_}
 use mathlib.Core.Bool.{Bool, true, false}
 use mathlib.Core.List.{List}
 use Prim.Native.Nat.{ℕ, _+_, _-_, _≤_, _<_}
@@ -20,14 +20,13 @@ use Rattle.inputs.specs.Inputs.{inputsOf}
 use Rattle.inputs.specs.declared.Inputs.{Inputs}
 use Rattle.inputs.proofs.Meaning.{sheet-ok, images-sound}
 use Rattle.changes.specs.Days.{within}
-use Rattle.changes.specs.Search.{Told, never, nextChange}
+use Rattle.changes.specs.Search.{Told, nextChange}
 use Rattle.changes.proofs.Count.{within-fits}
 use Rattle.next_change.specs.declared.Change.{Change}
 use Rattle.next_change.specs.Shop.{shopDay}
 use Rattle.next_change.specs.Answer.{canAsk, refused, changeOf, changeAnswer}
 use Rattle.next_change.specs.Looking.{Searchable}
 use Rattle.next_change.proofs.Asking.{asks}
-use Rattle.next_change.proofs.Resting.{next-none}
 use Rattle.next_change.proofs.Walking.{number-of}
 
 -- the year 0 has 366 days
@@ -51,22 +50,16 @@ module _ (date : Date) (t days : ℕ) (a : canAsk date t days ≡ true) where
     number = number-of d (dayNumber date) e
 
     -- the date's day is of the year 1 or later, and the days from it on end before 10000-01-01
-    pub start-ready : (h : Holidays) (sheet : Sheet) → Sound h → SheetOk sheet → (k ≡ 0 → ⊥) → Searchable h sheet d k
-    start-ready h sheet s l z =
+    pub start-ready : (h : Holidays) (sheet : Sheet) → Sound h → SheetOk sheet → Searchable h sheet d k
+    start-ready h sheet s l =
         let x = asks date t days a in
-        let f = within-fits days (d .number) k w z in
         let n = number in
         let g = not-first date (x .there .valid) (x .there .low) in
-        record { sound = s; limits = l; day = rw (← n) at e; low = omega arith; high = omega arith }
+        record { sound = s; limits = l; day = rw (← n) at e; low = omega arith; high = within-fits days (d .number) k w }
 
-    module _ (f : ℕ → Told) (r : Change) where
-      -- the search from the day is that from the date
-      pub start-is : r ≡ changeOf (nextChange f (d .number) t k) → r ≡ changeOf (nextChange f (dayNumber date) t (within days (dayNumber date)))
-      start-is q = q ∙ rw (w, number)
-
-      -- and within no days it finds nothing
-      pub start-none : k ≡ 0 → r ≡ changeOf (never 0) → r ≡ changeOf (nextChange f (dayNumber date) t (within days (dayNumber date)))
-      start-none z q = start-is (q ∙ ap changeOf (next-none f (d .number) t k z))
+    -- the search from the day is that from the date
+    pub start-is : (f : ℕ → Told) (r : Change) → r ≡ changeOf (nextChange f (d .number) t k) → r ≡ changeOf (nextChange f (dayNumber date) t (within days (dayNumber date)))
+    start-is f r q = q ∙ rw (w, number)
 
 -- the inputs' refusal, then 7, then the search
 module _ (rules : List ℕ) (row : Events) (h : Holidays) (date : Date) (t days : ℕ) (i : Inputs) (e : i ≡ inputsOf rules row h) where

@@ -1,19 +1,20 @@
 // The next change from a moment: each day in turn, from the asked one on.
 ghost use mathlib.Core.Path.{_≡_};
 ghost use mathlib.Core.Bool.{true};
-ghost use Prim.Native.Nat.{_+_, _-_, _<_};
+ghost use Prim.Native.Nat.{_≤_, _<_};
 ghost use Rattle.calendar.specs.Calendar.{dayNumber};
 ghost use Rattle.days.specs.DayOf.{dayOf};
 ghost use Rattle.rule_image.specs.Limits.{SheetOk};
 ghost use Rattle.date_filter.specs.Filter.{images, Sound};
 ghost use Rattle.changes.specs.Days.{within};
-ghost use Rattle.changes.specs.Search.{stopped, changes, never, search, nextChange};
-ghost use Rattle.changes.specs.Words.{stateIn};
+ghost use Rattle.changes.specs.Search.{Told, stopped, changes, never, nextChange};
+ghost use Rattle.changes.specs.Words.{Ordered};
 ghost use Rattle.next_change.specs.Shop.{shopDay};
 ghost use Rattle.next_change.specs.Answer.{canAsk, refused, changeOf, changeAnswer};
-ghost use Rattle.next_change.specs.Looking.{Ready, Searchable, Looks, FirstLooks};
+ghost use Rattle.next_change.specs.Looking.{held, from, Given, lookIn, Looks, decision, Searchable};
 use calendar::Date;
 use days::Day;
+use opening_hours::Evaluated;
 use rules::Sheet;
 use time_filter::Events;
 
@@ -28,97 +29,18 @@ pub struct Change {
     pub examined: u32,
 }
 
-// A refused day's 8 and rule; or a state, and the first minute that doesn't show it, 1440 where all do.
-pub struct Look {
-    pub refusal: u8,
-    pub place: usize,
-    pub state: u32,
-    pub minute: u32,
+// Since when a state holds: a minute of the day that is looked at, or a day before, with the state's word.
+enum Since {
+    Minute(u32),
+    Before(u32),
 }
 
-// The asked day: the state at the minute, and the first later minute of another.
-fn look_first(
-    public: &[u8],
-    public_unknown: &[u8],
-    school: &[u8],
-    school_unknown: &[u8],
-    row: Events,
-    sheet: Sheet,
-    d: Day,
+// A refused day's 8 and rule, at minute 0; or the state, and the first minute that doesn't show it, 1440 where all do.
+struct Look {
+    refusal: u8,
+    place: usize,
+    state: u32,
     minute: u32,
-) -> Look
-    requires { ⌜ Ready (images (now public) (now «public_unknown») (now school) (now «school_unknown»)) sheet d × (minute < 1440) ⌝ }
-    ensures { λ r. ⌜ FirstLooks (shopDay (images (now (public .entry)) (now («public_unknown» .entry)) (now (school .entry)) (now («school_unknown» .entry))) row sheet (d .number)) minute r ⌝ }
-{
-    let mut room = [0u32; 192];
-    let e = opening_hours::schedule_at(
-        public,
-        public_unknown,
-        school,
-        school_unknown,
-        row,
-        d,
-        sheet,
-        &mut room,
-    );
-    if e.refusal != 0 {
-        return Look {
-            refusal: e.refusal,
-            place: e.place as usize,
-            state: 0,
-            minute: 0,
-        };
-    }
-    let s = listing::state_at(&room, e.count, minute);
-    let x = changes::first_other(&room, e.count, s, minute + 1);
-    Look {
-        refusal: 0,
-        place: 0,
-        state: s,
-        minute: x,
-    }
-}
-
-// A later day: its first minute that doesn't show the state of s.
-fn look_at(
-    public: &[u8],
-    public_unknown: &[u8],
-    school: &[u8],
-    school_unknown: &[u8],
-    row: Events,
-    sheet: Sheet,
-    d: Day,
-    s: u32,
-) -> Look
-    requires { ⌜ Ready (images (now public) (now «public_unknown») (now school) (now «school_unknown»)) sheet d ⌝ }
-    ensures { λ r. ⌜ Looks (shopDay (images (now (public .entry)) (now («public_unknown» .entry)) (now (school .entry)) (now («school_unknown» .entry))) row sheet (d .number)) (stateIn s) 0 r ⌝ }
-{
-    let mut room = [0u32; 192];
-    let e = opening_hours::schedule_at(
-        public,
-        public_unknown,
-        school,
-        school_unknown,
-        row,
-        d,
-        sheet,
-        &mut room,
-    );
-    if e.refusal != 0 {
-        return Look {
-            refusal: e.refusal,
-            place: e.place as usize,
-            state: 0,
-            minute: 0,
-        };
-    }
-    let x = changes::first_other(&room, e.count, s, 0);
-    Look {
-        refusal: 0,
-        place: 0,
-        state: s,
-        minute: x,
-    }
 }
 
 fn refused_with(refusal: u8, place: usize) -> Change
@@ -179,48 +101,54 @@ fn no_change(examined: u32) -> Change
     }
 }
 
-// The days from d on, each from midnight, after those seen.
-fn rest(
-    public: &[u8],
-    public_unknown: &[u8],
-    school: &[u8],
-    school_unknown: &[u8],
-    row: Events,
-    sheet: Sheet,
-    d: Day,
-    s: u32,
-    count: u32,
-    seen: u32,
-) -> Change
-    requires { ⌜ Searchable (images (now public) (now «public_unknown») (now school) (now «school_unknown»)) sheet d count × (seen < 4000) ⌝ }
-    ensures { λ r. ⌜ r ≡ changeOf (search (shopDay (images (now (public .entry)) (now («public_unknown» .entry)) (now (school .entry)) (now («school_unknown» .entry))) row sheet) (stateIn s) 0 (d .number) count seen) ⌝ }
+// A look at the first n words, from minute t on, for the state of s.
+fn look_from(words: &[u32], n: usize, s: u32, t: u32) -> Look
+    requires { ⌜ Ordered (now words) n × (t ≤ 1440) ⌝ }
+    ensures { λ r. ⌜ r ≡ lookIn (now (words .entry)) n s t ⌝ }
 {
-    let mut day = d;
-    let mut i = 0;
-    while i < count {
-        let x = look_at(
-            public,
-            public_unknown,
-            school,
-            school_unknown,
-            row,
-            sheet,
-            day,
-            s,
-        );
-        i += 1;
-        if x.refusal != 0 {
-            return refused_on(day, x.place);
-        }
-        if x.minute < 1440 {
-            return change_on(day, x.minute, seen + i);
-        }
-        day = changes::day_after(day);
+    let minute = changes::first_other(words, n, s, t);
+    Look {
+        refusal: 0,
+        place: 0,
+        state: s,
+        minute,
     }
-    no_change(seen + count)
 }
 
-// The asked day, then the days behind it.
+// A look at a day as it is evaluated, with its words.
+fn look_at(words: &[u32], e: Evaluated, since: Since) -> Look
+    requires { ⌜ Ordered (now words) (e .count) × (from since ≤ 1440) ⌝ }
+    ensures { λ r. ⌜ ((a : Told) → Given a (now (words .entry)) e → Looks a (held since a) (from since) r) ⌝ }
+{
+    if e.refusal != 0 {
+        return Look {
+            refusal: e.refusal,
+            place: e.place as usize,
+            state: 0,
+            minute: 0,
+        };
+    }
+    match since {
+        Since::Minute(t) => {
+            let s = listing::state_at(words, e.count, t);
+            look_from(words, e.count, s, t + 1)
+        }
+        Since::Before(s) => look_from(words, e.count, s, 0),
+    }
+}
+
+// What a look before 24:00 decides: the refusal, or the change.
+fn decided(d: Day, x: Look, examined: u32) -> Change
+    requires { ⌜ d ≡ dayOf (d .number) ⌝ }
+    ensures { λ r. ⌜ r ≡ changeOf (decision x (d .number) examined) ⌝ }
+{
+    if x.refusal != 0 {
+        return refused_on(d, x.place);
+    }
+    change_on(d, x.minute, examined)
+}
+
+// The days from d on, the first behind the minute, until one decides.
 fn change_within(
     public: &[u8],
     public_unknown: &[u8],
@@ -232,38 +160,33 @@ fn change_within(
     minute: u32,
     count: u32,
 ) -> Change
-    requires { ⌜ Searchable (images (now public) (now «public_unknown») (now school) (now «school_unknown»)) sheet d count × (0 < count) × (minute < 1440) ⌝ }
+    requires { ⌜ Searchable (images (now public) (now «public_unknown») (now school) (now «school_unknown»)) sheet d count × (minute < 1440) ⌝ }
     ensures { λ r. ⌜ r ≡ changeOf (nextChange (shopDay (images (now (public .entry)) (now («public_unknown» .entry)) (now (school .entry)) (now («school_unknown» .entry))) row sheet) (d .number) minute count) ⌝ }
 {
-    let x = look_first(
-        public,
-        public_unknown,
-        school,
-        school_unknown,
-        row,
-        sheet,
-        d,
-        minute,
-    );
-    if x.refusal != 0 {
-        return refused_on(d, x.place);
+    let mut room = [0u32; 192];
+    let mut day = d;
+    let mut since = Since::Minute(minute);
+    let mut i = 0;
+    while i < count {
+        let e = opening_hours::schedule_at(
+            public,
+            public_unknown,
+            school,
+            school_unknown,
+            row,
+            day,
+            sheet,
+            &mut room,
+        );
+        i += 1;
+        let x = look_at(&room, e, since);
+        if x.minute < 1440 {
+            return decided(day, x, i);
+        }
+        day = changes::day_after(day);
+        since = Since::Before(x.state);
     }
-    if x.minute < 1440 {
-        return change_on(d, x.minute, 1);
-    }
-    let next = changes::day_after(d);
-    rest(
-        public,
-        public_unknown,
-        school,
-        school_unknown,
-        row,
-        sheet,
-        next,
-        x.state,
-        count - 1,
-        1,
-    )
+    no_change(count)
 }
 
 fn change_from(
@@ -282,9 +205,6 @@ fn change_from(
 {
     let d = days::day_on(date);
     let count = changes::days_within(days, d.number);
-    if count == 0 {
-        return no_change(0);
-    }
     change_within(
         public,
         public_unknown,

@@ -1,59 +1,57 @@
--- The words that the evaluation leaves show what the day tells, so that their first minute of another state is the day's.
-use Prim.Native.Nat.{_≤_}
-use lib.ListN.{length}
+-- A refusal is the day's; else the words show what the day tells, so that a look at them is one at the day.
 use borrow.Author.Needs.{needs}
 use native.Mathlib.Omega.{arith}
-use Rattle.date_filter.specs.Filter.{Holidays, images}
-use Rattle.next_change.specs.Shop.{shopDay}
-use Rattle.next_change.proofs.Given.{Fine, look-later}
-use Rattle.next_change.proofs.Shops.{shop-bad, shop-fine}
+use Rattle.next_change.proofs.Given.{look-refused, look-later, look-now}
 use Rattle.next_change.proofs.look_at.Statement.{statement}
 use Rattle.next_change.proofs.look_at.Tie as tie
 
-abbrev start : tie.After-schedule-at → tie.Start
-start c = c .before .before .before .before .before .before
-
-abbrev holidays : tie.Start → Holidays
-holidays c = images (c .args .public .now) (c .args .public-unknown .now) (c .args .school .now) (c .args .school-unknown .now)
-
--- the room keeps its length
-long : (c : tie.After-schedule-at) → 192 ≤ length (c .schedule-at .last .1 .1 .1 .1 .1 .1 .1 .0)
-long c = search needs
-
--- where the day is not refused, the room's words show it
-fine : (c : tie.Else1) → let S = c .before .before .before in let B = start S in
-    Fine (shopDay (holidays B) (B .args .row) (B .args .sheet) (B .args .d .number)) (S .schedule-at .last .1 .1 .1 .1 .1 .1 .1 .0) (S .schedule-at .result .count)
-fine c = let S = c .before .before .before in let B = start S in shop-fine (holidays B) (B .args .row) (B .args .sheet) (B .args .d .number) _ _ (S .schedule-at .ensures) (long S) (B .pre .limits) (c .if1 .left)
-
-slice-aggregate-schedule-at : tie.Need-slice-aggregate-schedule-at
-slice-aggregate-schedule-at c = search needs
-
-schedule-at-requires : tie.Need-schedule-at-requires
-schedule-at-requires c κs = search needs
-
-cast-t15 : tie.Need-cast-t15
-cast-t15 c = search needs
+cast-t8 : tie.Need-cast-t8
+cast-t8 c = search needs
 
 returns : tie.Need-returns
-returns c = let S = c .before .before .before .before in let B = start S in shop-bad (holidays B) (B .args .row) (B .args .sheet) (B .args .d .number) _ _ (S .schedule-at .ensures) (c .before .if1 .taken) _ _
+returns c = let T = c .before in look-refused _ _ (T .if1 .taken) (T .before .before .before .args .since)
 
-slice-aggregate-first-other : tie.Need-slice-aggregate-first-other
-slice-aggregate-first-other c = search needs
+enum-known-since : tie.Need-enum-known-since
+enum-known-since c = search needs
 
-first-other-requires : tie.Need-first-other-requires
-first-other-requires c κs = (fine (c .before) .order, omega arith)
+state-at-requires : tie.Need-state-at-requires
+state-at-requires c κs = search needs
+
+add-look-from : tie.Need-add-look-from
+add-look-from c = let K = c .before .before in let h = rw (K .since .given .1) at (K .before .before .before .before .before .pre .1) in omega arith
+
+look-from-requires : tie.Need-look-from-requires
+look-from-requires c κs =
+    let K = c .before .before in let P = K .before .before .before .before .before .pre in
+    (P .0, rw (K .since .given .1) at (P .1))
+
+enum-known-since-2 : tie.Need-enum-known-since-2
+enum-known-since-2 c = search needs
+
+look-from-requires-2 : tie.Need-look-from-requires-2
+look-from-requires-2 c κs = search needs
 
 returns-2 : tie.Need-returns-2
-returns-2 c = look-later _ _ _ (fine (c .before .before)) _ _ (c .first-other .ensures)
+returns-2 c =
+    let S = c .before in let K = S .before .before in let E = K .before .before in
+    look-now _ _ (E .if1 .left) _ _ _ _ (K .since .given .1) (E .before .before .before .pre .1) (S .state-at .ensures) (c .look-from .ensures)
+
+returns-3 : tie.Need-returns-3
+returns-3 c =
+    let K = c .before .before in let E = K .before .before in
+    look-later _ _ (E .if1 .left) _ _ _ (K .since2 .given .1) (c .look-from2 .ensures)
 
 pub look-at-spec : {M : Type 1} → statement M
 look-at-spec =
     tie.close
     (tie.spec
-    slice-aggregate-schedule-at
-    schedule-at-requires
-    cast-t15
+    cast-t8
     returns
-    slice-aggregate-first-other
-    first-other-requires
-    returns-2)
+    enum-known-since
+    state-at-requires
+    add-look-from
+    look-from-requires
+    enum-known-since-2
+    look-from-requires-2
+    returns-2
+    returns-3)
