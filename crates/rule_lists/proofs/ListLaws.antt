@@ -16,7 +16,7 @@ use Rattle.rules.specs.declared.WeekdayItem.{WeekdayItem}
 use Rattle.rules.specs.declared.TimeSpan.{TimeSpan}
 use Rattle.rule_items.specs.Codes.{operatorAt, kindAt}
 use Rattle.rule_lists.specs.Listed.{listed, Taken, Begun}
-use Rattle.rule_lists.specs.RuleAt.{headAt, countAt, countsAt, yearsAt, monthdaysAt, weeksAt, weekdaysAt, spansAt, ruleAt}
+use Rattle.rule_lists.specs.RuleAt.{headAt, countAt, countsAt, yearsAt, monthdaysAt, weeksAt, weekdaysAt, spansAt, ruleOf, ruleAt}
 use Rattle.rule_lists.specs.declared.Head.{Head}
 use Rattle.rule_lists.specs.declared.Counts.{Counts}
 
@@ -45,24 +45,7 @@ module _ (s : List ℕ) (p : Place) where
       (ds : Read (List WeekdayItem)) (ts : Read (List TimeSpan))
       → h ≡ headAt s p → c ≡ countsAt s (h .place) → ys ≡ yearsAt s (c .place) (c .item .years) → ms ≡ monthdaysAt s edition (ys .place) (c .item .monthdays)
       → ws ≡ weeksAt s (ms .place) (c .item .weeks) → ds ≡ weekdaysAt s (ws .place) (c .item .weekdays) → ts ≡ spansAt s (ds .place) (c .item .spans)
-      → record {
-        item = record {
-          operator = h .item .operator;
-          kind = h .item .kind;
-          comment = h .item .comment;
-          «year_count» = c .item .years;
-          «monthday_count» = c .item .monthdays;
-          «week_count» = c .item .weeks;
-          «weekday_count» = c .item .weekdays;
-          «span_count» = c .item .spans;
-          years = ys .item;
-          monthdays = ms .item;
-          weeks = ws .item;
-          weekdays = ds .item;
-          spans = ts .item;
-        };
-        place = ts .place;
-      } ≡ ruleAt s edition p
+      → record { item = ruleOf (h .item) (c .item) (ys .item) (ms .item) (ws .item) (ds .item) (ts .item); place = ts .place } ≡ ruleAt s edition p
   unfolding ruleAt
   rule-made edition h c ys ms ws ds ts e1 e2 e3 e4 e5 e6 e7 = rw (e7, e6, e5, e4, e3, e2, e1)
 

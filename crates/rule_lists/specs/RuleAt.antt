@@ -66,6 +66,24 @@ weekdaysAt s = listed (weekdayItemAt s) (replicate 8 noWeekday)
 abbrev pub spansAt : List ℕ → Place → ℕ → Read (List TimeSpan)
 spansAt s = listed (spanAt s) (replicate 8 noSpan)
 
+abbrev pub ruleOf : Head → Counts → List YearItem → List MonthdayItem → List WeekItem → List WeekdayItem → List TimeSpan → Rule
+ruleOf h c ys ms ws ds ts =
+    record {
+      operator = h .operator;
+      kind = h .kind;
+      comment = h .comment;
+      «year_count» = c .years;
+      «monthday_count» = c .monthdays;
+      «week_count» = c .weeks;
+      «weekday_count» = c .weekdays;
+      «span_count» = c .spans;
+      years = ys;
+      monthdays = ms;
+      weeks = ws;
+      weekdays = ds;
+      spans = ts;
+    }
+
 -- the items in the order of their counts
 unfoldable pub ruleAt : List ℕ → ℕ → Place → Read Rule
 ruleAt s edition p =
@@ -76,21 +94,4 @@ ruleAt s edition p =
     let ws : Read (List WeekItem) = weeksAt s (ms .place) (c .item .weeks) in
     let ds : Read (List WeekdayItem) = weekdaysAt s (ws .place) (c .item .weekdays) in
     let ts : Read (List TimeSpan) = spansAt s (ds .place) (c .item .spans) in
-    record {
-      item = record {
-        operator = h .item .operator;
-        kind = h .item .kind;
-        comment = h .item .comment;
-        «year_count» = c .item .years;
-        «monthday_count» = c .item .monthdays;
-        «week_count» = c .item .weeks;
-        «weekday_count» = c .item .weekdays;
-        «span_count» = c .item .spans;
-        years = ys .item;
-        monthdays = ms .item;
-        weeks = ws .item;
-        weekdays = ds .item;
-        spans = ts .item;
-      };
-      place = ts .place;
-    }
+    record { item = ruleOf (h .item) (c .item) (ys .item) (ms .item) (ws .item) (ds .item) (ts .item); place = ts .place }

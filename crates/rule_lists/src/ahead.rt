@@ -18,7 +18,6 @@ use rules::Time;
 use rules::TimeSpan;
 use rules::WeekItem;
 use rules::WeekdayItem;
-use rules::WeekdayRange;
 use rules::YearItem;
 
 pub struct YearsAhead {

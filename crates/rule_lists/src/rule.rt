@@ -1,12 +1,18 @@
 // A rule: what it does, its five counts, its items.
+ghost use mathlib.Core.Path.{_≡_};
 ghost use Prim.Native.Nat.{_<_, _^_};
 ghost use Rattle.bits.specs.Place.{bitOf, Found};
-ghost use Rattle.rule_lists.specs.RuleAt.{headAt, countsAt, Few, ruleAt};
+ghost use Rattle.rule_lists.specs.RuleAt.{headAt, countsAt, Few, ruleOf, ruleAt};
 use crate::Counts;
 use crate::Head;
 use crate::lists;
 use bits::Place;
+use rules::MonthdayItem;
 use rules::Rule;
+use rules::TimeSpan;
+use rules::WeekItem;
+use rules::WeekdayItem;
+use rules::YearItem;
 
 pub struct HeadRead {
     pub item: Head,
@@ -71,13 +77,41 @@ fn counts(image: &[u8], place: Place) -> CountsRead
     }
 }
 
+fn rule_of(
+    head: Head,
+    n: Counts,
+    years: [YearItem; 8],
+    monthdays: [MonthdayItem; 8],
+    weeks: [WeekItem; 8],
+    weekdays: [WeekdayItem; 8],
+    spans: [TimeSpan; 8],
+) -> Rule
+    ensures { λ r. ⌜ r ≡ ruleOf head n years monthdays weeks weekdays spans ⌝ }
+{
+    let operator = head.operator;
+    Rule {
+        operator: operator,
+        kind: head.kind,
+        comment: head.comment,
+        year_count: n.years,
+        monthday_count: n.monthdays,
+        week_count: n.weeks,
+        weekday_count: n.weekdays,
+        span_count: n.spans,
+        years: years,
+        monthdays: monthdays,
+        weeks: weeks,
+        weekdays: weekdays,
+        spans: spans,
+    }
+}
+
 pub fn rule(image: &[u8], place: Place, edition: u32) -> RuleRead
     requires { ⌜ bitOf place < 2 ^ 24 ⌝ }
     ensures { λ r. ⌜ Found (r .item) (r .place) (ruleAt (now (image .entry)) edition place) place 1592 ⌝ }
 {
     let h = head(image, place);
     let does = h.item;
-    let operator = does.operator;
     let p1 = h.place;
     let c = counts(image, p1);
     let n = c.item;
@@ -97,22 +131,9 @@ pub fn rule(image: &[u8], place: Place, edition: u32) -> RuleRead
     let ts = lists::span_items(image, p6, n.spans);
     let spans = ts.items;
     let p7 = ts.place;
+    let item = rule_of(does, n, years, monthdays, weeks, weekdays, spans);
     RuleRead {
-        item: Rule {
-            operator: operator,
-            kind: does.kind,
-            comment: does.comment,
-            year_count: n.years,
-            monthday_count: n.monthdays,
-            week_count: n.weeks,
-            weekday_count: n.weekdays,
-            span_count: n.spans,
-            years: years,
-            monthdays: monthdays,
-            weeks: weeks,
-            weekdays: weekdays,
-            spans: spans,
-        },
+        item: item,
         place: p7,
     }
 }

@@ -26,10 +26,14 @@ weekday-items-requires c κs = search needs
 span-items-requires : tie.Need-span-items-requires
 span-items-requires c κs = search needs
 
+rule-of-requires : tie.Need-rule-of-requires
+rule-of-requires c κs = search needs
+
 returns : tie.Need-returns
 returns c =
-    let e5 = c .before .span-items .ensures in
-    let b4 = c .before .before .before in
+    let b5 = c .before .before in
+    let e5 = b5 .span-items .ensures in
+    let b4 = b5 .before .before in
     let e4 = b4 .weekday-items .ensures in
     let b3 = b4 .before .before in
     let e3 = b3 .week-items .ensures in
@@ -41,7 +45,7 @@ returns c =
     let n = b0 .counts .ensures in
     let h = b0 .before .before .head .ensures in
     record {
-      is = rule-made _ _ _ _ _ _ _ _ _ _ (h .is) (n .0 .is) (e1 .is) (e2 .is) (e3 .is) (e4 .is) (e5 .is);
+      is = rw (c .rule-of .ensures) (rule-made _ _ _ _ _ _ _ _ _ _ (h .is) (n .0 .is) (e1 .is) (e2 .is) (e3 .is) (e4 .is) (e5 .is));
       near = omega (arith, h .near, n .0 .near, n .1 .ys, n .1 .ms, n .1 .ws, n .1 .ds, n .1 .ts, e1 .near, e2 .near, e3 .near, e4 .near, e5 .near);
     }
 
@@ -56,4 +60,5 @@ rule-spec =
     week-items-requires
     weekday-items-requires
     span-items-requires
+    rule-of-requires
     returns)
