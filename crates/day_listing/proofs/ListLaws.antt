@@ -20,7 +20,7 @@ use Rattle.reading.specs.Ranging.{Ranged, over64, gives}
 use Rattle.opening_hours.specs.Hours.{dayRanged}
 use Rattle.opening_hours.specs.Rooms.{Answered, DayReady}
 use Rattle.opening_hours.specs.declared.Evaluated.{Evaluated}
-use Rattle.listing.specs.Writing.{Writes, ListReady}
+use Rattle.listing.specs.Writing.{says, Writes, ListReady}
 use Rattle.listing.specs.declared.Written.{Written}
 use Rattle.inputs.specs.Inputs.{inputsOf}
 use Rattle.inputs.specs.declared.Inputs.{Inputs}
@@ -39,9 +39,9 @@ day-listed (over64 k) xs v a z o p r w = let q : v .refusal ≡ 8 = ap (λ (y : 
 day-listed (gives e) xs v a z o p r w = record { answer = rw (a .list) at (w .answer); cells = rw (a .list) at (w .cells) }
 
 -- and one that is has nothing written
-pub day-refused : (x : Ranged) (xs : List ℕ) (v : Evaluated) → Answered x xs v → (v .refusal ≡ 0 → ⊥) → (o : List ℕ) → DayLists x o o (record { refusal = v .refusal; place = v .place; count = 0 })
-day-refused (over64 k) xs v a z o = record { answer = rw (a .answer); cells = refl }
-day-refused (gives e) xs v a z o = absurd (z (ap (λ (y : Evaluated). y .refusal) (a .answer)))
+pub day-refused : (x : Ranged) (xs : List ℕ) (v : Evaluated) → Answered x xs v → (v .refusal ≡ 0 → ⊥) → (o : List ℕ) (r : Written) → r ≡ says (v .refusal) (v .place) 0 → DayLists x o o r
+day-refused (over64 k) xs v a z o r f = record { answer = rw (a .answer) at f; cells = refl }
+day-refused (gives e) xs v a z o r f = absurd (z (ap (λ (y : Evaluated). y .refusal) (a .answer)))
 
 -- a date's day has its number
 number-of : (d : Day) (n : ℕ) → d ≡ dayOf n → d .number ≡ n
@@ -50,14 +50,14 @@ number-of d n e = ap (λ (x : Day). x .number) e
 
 module _ (rules : List ℕ) (row : Events) (h : Holidays) (date : Date) (i : Inputs) (e : i ≡ inputsOf rules row h) where
   -- the ways out: the inputs, the date, the day
-  pub inputs-refused : (o : List ℕ) → (i .refusal ≡ 0 → ⊥) → Lists rules row h date o o (record { refusal = i .refusal; place = i .place; count = 0 })
+  pub inputs-refused : (o : List ℕ) → (i .refusal ≡ 0 → ⊥) → (r : Written) → r ≡ says (i .refusal) (i .place) 0 → Lists rules row h date o o r
   unfolding answerOn cellsOn
-  inputs-refused o z = record { answer = rw (← e, ne-eqb (i .refusal) 0 z); cells = rw (← e, ne-eqb (i .refusal) 0 z) }
+  inputs-refused o z r f = record { answer = rw (← e, ne-eqb (i .refusal) 0 z) f; cells = rw (← e, ne-eqb (i .refusal) 0 z) }
 
   module _ (z : i .refusal ≡ 0) where
-    pub no-date : (o : List ℕ) → isDate date ≡ false → Lists rules row h date o o (record { refusal = 7; place = 0; count = 0 })
+    pub no-date : (o : List ℕ) → isDate date ≡ false → (r : Written) → r ≡ says 7 0 0 → Lists rules row h date o o r
     unfolding answerOn cellsOn
-    no-date o f = record { answer = rw (← e, eq-eqb (i .refusal) 0 z, f); cells = rw (← e, eq-eqb (i .refusal) 0 z, f) }
+    no-date o f r g = record { answer = rw (← e, eq-eqb (i .refusal) 0 z, f) g; cells = rw (← e, eq-eqb (i .refusal) 0 z, f) }
 
     pub dated : isDate date ≡ true → (d : Day) → d ≡ dayOf (dayNumber date) → (o p : List ℕ) (r : Written) → DayLists (dayRanged h row (d .number) (i .sheet)) o p r → Lists rules row h date o p r
     unfolding answerOn cellsOn

@@ -35,11 +35,7 @@ fn list_ranges(
     if e.refusal == 0 {
         return listing::write_in(&room, e.count, &mut *out);
     }
-    Written {
-        refusal: e.refusal,
-        place: e.place as usize,
-        count: 0,
-    }
+    listing::refuse(e.refusal, e.place as usize)
 }
 
 // Writes the day's entries to the front of `out` and nothing behind them; a refusal writes nothing.
@@ -71,15 +67,7 @@ pub fn list_day(
                 &mut *out,
             );
         }
-        return Written {
-            refusal: 7,
-            place: 0,
-            count: 0,
-        };
+        return listing::refuse(7, 0);
     }
-    Written {
-        refusal: read.refusal,
-        place: read.place,
-        count: 0,
-    }
+    listing::refuse(read.refusal, read.place)
 }

@@ -23,7 +23,6 @@ use Rattle.changes.specs.Search.{Told, refuses, tells, other, Found, changes, s
 use Rattle.next_change.specs.Shop.{told, shopDay}
 use Rattle.next_change.specs.Answer.{canAsk, refused, changeOf, changeAnswer}
 use Rattle.next_change.specs.declared.Change.{Change}
-use Rattle.kumolendi.specs.Packed.{handedOver}
 use Rattle.kumolendi.proofs.DaySizes.{range-near, rules-few}
 
 -- what is found over days that are refused at small numbers only
@@ -63,8 +62,3 @@ change-small rules row h date t days c e = rw e (by (eqb (inputsOf rules row h .
         found-small (shopDay h row (inputsOf rules row h .sheet)) (shop-near h row (inputsOf rules row h .sheet) k) _ (t + 1) (dayNumber date) (within days (dayNumber date)) 0
     by true z false = omega arith
     by false z q = omega (arith, inputs-limits rules row h .1)
-
-pub handed : (c x : Change) → c ≡ x
-    → record { refusal = c .refusal; place = c .place; year = c .year; month = c .month; day = c .day; minute = c .minute; examined = c .examined } ≡ handedOver x
-unfolding handedOver
-handed c x e = rw e

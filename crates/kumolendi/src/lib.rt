@@ -14,6 +14,7 @@ use holidays::Checked;
 use holidays::Count;
 use holidays::First;
 use listing::Written;
+use next_change::Change;
 use rule_image::Verdict;
 use time_filter::Events;
 
@@ -51,6 +52,21 @@ fn date_number(d: Date) -> u32
     ensures { λ r. ⌜ r ≡ dateNumber d ⌝ }
 {
     d.year * 512 + d.month * 32 + d.day
+}
+
+fn hand_over(c: Change) -> KumolendiChange
+    requires { ⌜ c .place < 4294967296 ⌝ }
+    ensures { λ r. ⌜ r ≡ handedOver c ⌝ }
+{
+    KumolendiChange {
+        refusal: c.refusal as u32,
+        place: c.place as u32,
+        year: c.year,
+        month: c.month,
+        day: c.day,
+        minute: c.minute,
+        examined: c.examined,
+    }
 }
 
 // Event times in minutes, 65535 for none.
@@ -129,15 +145,7 @@ pub extern "C" fn kumolendi_next_change(
         minute,
         days,
     );
-    KumolendiChange {
-        refusal: c.refusal as u32,
-        place: c.place as u32,
-        year: c.year,
-        month: c.month,
-        day: c.day,
-        minute: c.minute,
-        examined: c.examined,
-    }
+    hand_over(c)
 }
 
 #[no_mangle]

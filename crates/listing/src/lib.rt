@@ -5,7 +5,7 @@ ghost use lib.ListN.{length, take};
 ghost use Rattle.ranges.specs.States.{covers, stateAt, lit};
 ghost use Rattle.ranges.specs.Words.{rangeOf, ranges};
 ghost use Rattle.listing.specs.Listing.{closed, holesL, mergedL, listing, stateWord};
-ghost use Rattle.listing.specs.Writing.{Entries, ListReady, Writes, Answers};
+ghost use Rattle.listing.specs.Writing.{says, Entries, ListReady, Writes, Answers};
 use schedule::Schedule;
 
 fn hole(a: u32, b: u32) -> u32
@@ -86,6 +86,16 @@ pub struct Written {
     pub count: usize,
 }
 
+pub fn refuse(refusal: u8, place: usize) -> Written
+    ensures { λ r. ⌜ r ≡ says refusal place 0 ⌝ }
+{
+    Written {
+        refusal,
+        place,
+        count: 0,
+    }
+}
+
 // Writes the listing of the first n ranges to the front of `out`.
 pub fn write_in(words: &[u32], n: usize, out: &mut [u32]) -> Written
     requires { ⌜ ListReady (now words) n ⌝ }
@@ -101,11 +111,7 @@ pub fn write_in(words: &[u32], n: usize, out: &mut [u32]) -> Written
             count: r,
         };
     }
-    Written {
-        refusal: 9,
-        place: r,
-        count: 0,
-    }
+    refuse(9, r)
 }
 
 pub fn write_listing(s: Schedule, out: &mut [u32]) -> Written
@@ -115,11 +121,7 @@ pub fn write_listing(s: Schedule, out: &mut [u32]) -> Written
         let w = s.words;
         return write_in(&w, s.len, &mut *out);
     }
-    Written {
-        refusal: 10,
-        place: 0,
-        count: 0,
-    }
+    refuse(10, 0)
 }
 
 fn covers_minute(w: u32, t: u32) -> bool

@@ -74,17 +74,18 @@ module _ (h : Holidays) (e : Events) (s : Sheet) (d y : Day) where
     pub fold : rangeM i (map (spannedOn h e (d .number)) (drop i (rulesIn s))) (turnOf k xs) ≡ rangeReading (map (spannedOn h e (d .number)) (rulesIn s))
 
   -- at first nothing is held
-  pub fold-begin : (xs : List ℕ) → length (s .rules) ≡ 32 → RulesReady h s d y xs → Folding (length xs) (record { matched = false; present = false; count = 0 }) xs 0
-  fold-begin xs l r = record {
-    days = r .days;
-    sheet = r .sheet;
-    long = l;
-    room = r .room;
-    same = refl;
-    upto = omega arith;
-    ready = record { few = omega arith; long = omega arith; order = omega arith };
-    fold = refl;
-  }
+  pub fold-begin : (xs : List ℕ) (k : Held) → k ≡ record { matched = false; present = false; count = 0 } → length (s .rules) ≡ 32 → RulesReady h s d y xs → Folding (length xs) k xs 0
+  fold-begin xs k p l r =
+      rw p (record {
+        days = r .days;
+        sheet = r .sheet;
+        long = l;
+        room = r .room;
+        same = refl;
+        upto = omega arith;
+        ready = record { few = omega arith; long = omega arith; order = omega arith };
+        fold = refl;
+      })
 
   module _ (size : ℕ) (k : Held) (xs : List ℕ) (i : ℕ) (st : Folding size k xs i) where
     module _ (f : Rule) (u : i < s .count) where
@@ -124,11 +125,11 @@ module _ (h : Holidays) (e : Events) (s : Sheet) (d y : Day) where
         }
 
         -- more than 64 are refused at this rule
-        pub fold-stop : 64 < r .count → Answered (rangeReading (map (spannedOn h e (d .number)) (rulesIn s))) ys (record { refusal = 8; place = i; count = 0 })
-        fold-stop w =
+        pub fold-stop : 64 < r .count → (a : Evaluated) → a ≡ record { refusal = 8; place = i; count = 0 } → Answered (rangeReading (map (spannedOn h e (d .number)) (rulesIn s))) ys a
+        fold-stop w a p =
             let g : rangeReading (map (spannedOn h e (d .number)) (rulesIn s)) ≡ over64 i =
             sym (rw next at (st .fold)) ∙ stops i here left (turnOf k xs) (turnOf r ys) (t .holds .is) (many-held r ys (t .holds .ready .long) (t .there w) w) in
-            rw g (record { answer = refl; few = omega arith; list = refl; order = omega arith })
+            rw (p, g) (record { answer = refl; few = omega arith; list = refl; order = omega arith })
 
     -- all rules had their turn: what is held is what they gave
     pub fold-end : s .count ≤ i → (ys : List ℕ) (r : Evaluated) → Answered (gives (turnOf k xs .eval)) ys r → Answered (rangeReading (map (spannedOn h e (d .number)) (rulesIn s))) ys r

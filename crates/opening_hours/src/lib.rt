@@ -1,5 +1,6 @@
 // The hours of a day: each rule takes its turn after the others, in one room.
 ghost use mathlib.Core.Path.{_≡_};
+ghost use mathlib.Core.Bool.{false};
 ghost use mathlib.Core.List.{map};
 ghost use Rattle.date_filter.specs.Filter.{images};
 ghost use Rattle.reading.specs.Ranging.{gives, turnR, rangeReading};
@@ -83,6 +84,27 @@ fn day_list(h: Held, room: &mut [u32]) -> Evaluated
     }
 }
 
+// What is held before the first rule.
+fn nothing_held() -> Held
+    ensures { λ r. ⌜ r ≡ record { matched = false; present = false; count = 0 } ⌝ }
+{
+    Held {
+        matched: false,
+        present: false,
+        count: 0,
+    }
+}
+
+fn refused_at(place: u8) -> Evaluated
+    ensures { λ r. ⌜ r ≡ record { refusal = 8; place = place; count = 0 } ⌝ }
+{
+    Evaluated {
+        refusal: 8,
+        place,
+        count: 0,
+    }
+}
+
 // The rules' turns, one after the other; each result is judged.
 fn evaluate(
     public: &[u8],
@@ -99,11 +121,7 @@ fn evaluate(
     ensures { λ r. ⌜ Answered (rangeReading (map (spannedOn (images (now (public .entry)) (now («public_unknown» .entry)) (now (school .entry)) (now («school_unknown» .entry))) row (today .number)) (rulesIn sheet))) (now (room .exit)) r ⌝ }
 {
     let n = sheet.count;
-    let mut h = Held {
-        matched: false,
-        present: false,
-        count: 0,
-    };
+    let mut h = nothing_held();
     let mut i = 0;
     while i < n {
         let rule = sheet.rules[i];
@@ -122,11 +140,7 @@ fn evaluate(
         if h.count <= 64 {
             i += 1;
         } else {
-            return Evaluated {
-                refusal: 8,
-                place: i as u8,
-                count: 0,
-            };
+            return refused_at(i as u8);
         }
     }
     day_list(h, &mut *room)

@@ -1,11 +1,11 @@
 -- From the callees' contracts to this crate's, over plain variables.
 use mathlib.Core.Path.{_≡_, refl, sym, subst, ap, _∙_}
 use mathlib.Core.Bool.{Bool, true, false}
-use mathlib.Core.Option.{some}
 use mathlib.Core.List.{List}
 use Prim.Native.Nat.{ℕ, _-_, _+_, _*_, _≤_, _<_}
 use native.Mathlib.Omega.{arith}
-use lib.ListN.{length, take, length-map, length-take}
+use lib.ListN.{length, take, drop, length-map, length-append, length-take, length-drop}
+use lib.Seq.{take-at, length-take-le}
 use Rattle.days.specs.declared.Day.{Day}
 use Rattle.days.specs.DayOf.{dayOf}
 use Rattle.rules.specs.declared.Rule.{Rule}
@@ -13,10 +13,10 @@ use Rattle.ranges.specs.Range.{Range}
 use Rattle.ranges.specs.States.{InOrder}
 use Rattle.ranges.specs.Insertion.{addR}
 use Rattle.ranges.specs.Build.{spans, buildR}
-use Rattle.ranges.specs.Words.{ranges}
+use Rattle.ranges.specs.Words.{ranges, Copied}
 use Rattle.ranges.proofs.Builds.{in-build}
 use Rattle.ranges.proofs.Orders.{in-add}
-use Rattle.schedule.specs.Rooms.{Leaves, AddReady, BuildReady}
+use Rattle.schedule.specs.Rooms.{Leaves, BuildReady}
 use Rattle.time_filter.specs.declared.Events.{Events}
 use Rattle.time_filter.specs.declared.Cuts.{Cuts}
 use Rattle.time_filter.specs.Spans.{intervalOf}
@@ -24,22 +24,17 @@ use Rattle.time_filter.specs.Cuts.{cutOf, cutAll, cutsOf}
 use Rattle.time_filter.proofs.Covers.{cuts-words}
 use Rattle.date_items.proofs.Laws.{is-day, own-number}
 use Rattle.date_filter.specs.Filter.{Holidays, ruleMatches, ruleUnknown}
-use Rattle.reading.specs.Operators.{Turn, when, overlaid}
+use Rattle.reading.specs.Operators.{Turn}
 use Rattle.reading.specs.Ranging.{ownR}
 use Rattle.operators.specs.declared.Held.{Held}
-use Rattle.operators.specs.Rooms.{Holds}
+use Rattle.operators.specs.Rooms.{turnOf, Holds}
 use Rattle.rule_day.specs.Parts.{kindOn, spansOf, spannedOn}
-use Rattle.rule_day.specs.Ready.{shownOn, withNight, onlyNight, DayReady, RuleReady}
+use Rattle.rule_day.specs.Ready.{shownOn, partOn, withNight, DayReady, NightReady, RuleReady}
 use Rattle.rule_day.proofs.Agreeing.{cuts-end, by-kind}
 
 -- the ranges of a day stand in order, since no cut ends past 24:00
 shown-order : (h : Holidays) (e : Events) (d : Day) (shift : ℕ) (r : Rule) → InOrder 0 (shownOn h e d shift r) 1440
 shown-order h e d shift r = in-build (kindOn h r d) (r .comment) (spans (cutAll e d shift (spansOf r))) (cuts-end e d shift (spansOf r))
-
--- and so do the words that are left of them
-pub left-order : (h : Holidays) (e : Events) (d : Day) (shift : ℕ) (r : Rule) (ys : List ℕ) (n : ℕ) → Leaves (shownOn h e d shift r) ys 8 n
-    → InOrder 0 (ranges (take n ys)) 1440
-left-order h e d shift r ys n l = rw (l .list) (shown-order h e d shift r)
 
 module _ (h : Holidays) (e : Events) (d : Day) (shift : ℕ) (r : Rule) where
   -- the counted words are the cuts
@@ -77,20 +72,6 @@ module _ (h : Holidays) (e : Events) (d : Day) (shift : ℕ) (r : Rule) where
     pub part-made : (ys : List ℕ) (n : ℕ) → Leaves (buildR k (r .comment) (spans (take (u .count) (u .words)))) ys (u .count) n → Leaves (shownOn h e d shift r) ys 8 n
     part-made ys n l = record { few = omega (arith, cut-count u p, l .few); list = l .list ∙ rw (cut-words u p (omega arith), q) }
 
--- the night's ranges bs, at most 8, go over at most 8 of today's: 8 + 2 * 8 at most are left
-module _ (h : Holidays) (e : Events) (y : Day) (shift : ℕ) (r : Rule) (bs : List ℕ) (m : ℕ) (l : Leaves (shownOn h e y shift r) bs 8 m) (xs : List ℕ) (n : ℕ) (few : n ≤ 8) where
-  pub add-ready : 32 ≤ length xs → InOrder 0 (ranges (take n xs)) 1440 → m ≤ length bs → AddReady xs n bs m
-  add-ready i o j = record {
-    room = omega (arith, l .few);
-    few = j;
-    order = o;
-    order′ = left-order h e y shift r bs m l;
-  }
-
-  pub night-made : (ys : List ℕ) (k : ℕ) → Leaves (addR (ranges (take n xs)) (ranges (take m bs))) ys (n + 2 * m) k
-      → Leaves (addR (ranges (take n xs)) (shownOn h e y shift r)) ys 24 k
-  night-made ys k w = record { few = omega (arith, l .few, w .few); list = w .list ∙ rw (l .list) }
-
 -- the asked day, and the day before it
 module _ (h : Holidays) (r : Rule) (d y : Day) (xs : List ℕ) (k : RuleReady h r d y xs) where
   pub today-ready : DayReady h r d
@@ -107,47 +88,56 @@ module _ (h : Holidays) (r : Rule) (d y : Day) (xs : List ℕ) (k : RuleReady h 
         high = omega (arith, e, k .high);
       }
 
--- a list that a room leaves, in order, is held
-held : (m : Bool) (l : List Range) (ys : List ℕ) (k : ℕ) → ranges (take k ys) ≡ l → k ≤ 24 → k ≤ length ys → InOrder 0 l 1440
-    → Holds (record { matched = m; eval = some l }) ys 24 (record { matched = m; present = true; count = k })
-held m l ys k p i j o = record {
-  is = ap (λ (z : List Range). record { matched = m; eval = some z }) p;
-  ready = record { few = i; long = j; order = subst (λ (z : List Range). InOrder 0 z 1440) (sym p) o };
-}
+-- the rule matches the day, and holds its ranges, or does not
+module _ (h : Holidays) (e : Events) (d : Day) (shift : ℕ) (r : Rule) (b : Bool) (u : b ≡ ruleMatches h r d) (ys : List ℕ) where
+  pub part-on : b ≡ true → (k : ℕ) → Leaves (shownOn h e d shift r) ys 8 k → k ≤ length ys → Holds (partOn h e d shift r) ys 8 (record { matched = true; present = true; count = k })
+  part-on t k l i = rw (← u, t) (record { is = rw (l .list); ready = record { few = l .few; long = i; order = rw (l .list) (shown-order h e d shift r) } })
 
--- yesterday matches, or not
-module _ (h : Holidays) (e : Events) (y : Day) (shift : ℕ) (r : Rule) (b : Bool) (u : b ≡ ruleMatches h r y) (ys : List ℕ) where
-  pub night-on : b ≡ true → (l : List Range) → InOrder 0 l 1440 → (k : ℕ) → Leaves (addR l (shownOn h e y shift r)) ys 24 k → k ≤ length ys
-      → Holds (withNight h e y shift r l) ys 24 (record { matched = true; present = true; count = k })
-  night-on t l o k w i =
-      rw (← u, t) (held true (addR l (shownOn h e y shift r)) ys k (w .list) (w .few) i
-      (in-add l (shownOn h e y shift r) 0 0 1440 o (shown-order h e y shift r) (omega arith)))
+  pub part-off : b ≡ false → Holds (partOn h e d shift r) ys 8 (record { matched = false; present = false; count = 0 })
+  part-off t = rw (← u, t) (record { is = refl; ready = record { few = omega arith; long = omega arith; order = omega arith } })
 
-  pub night-off : b ≡ false → (n : ℕ) → n ≤ 8 → InOrder 0 (ranges (take n ys)) 1440 → n ≤ length ys
-      → Holds (withNight h e y shift r (ranges (take n ys))) ys 24 (record { matched = true; present = true; count = n })
-  night-off t n f o i = rw (← u, t) (held true (ranges (take n ys)) ys n refl (omega arith) i o)
+-- the night over the day: 8 + 2 * 8 at most are left
+module _ (p : Held) (xs : List ℕ) (e : Held) (ys : List ℕ) (k : NightReady p xs e ys) where
+  -- where one is not there the other stays
+  pub night-only : p .present ≡ false → (zs : List ℕ) → Copied ys (e .count) xs zs
+      → Holds (withNight (turnOf p xs) (turnOf e ys)) zs 24 (record { matched = p .matched; present = e .present; count = e .count })
+  night-only n zs c =
+      let f : take (e .count) zs ≡ take (e .count) ys = rw (c .is) (take-at (take (e .count) ys) (drop (e .count) xs) (e .count) (length-take-le (e .count) ys (k .night .long))) in
+      record {
+        is = rw (n, f);
+        ready = record {
+          few = omega (arith, k .night .few);
+          long = rw (c .is) (simp (length-append, length-take, length-drop) (omega (arith, k .night .few, k .night .long, k .room)));
+          order = rw f (k .night .order);
+        };
+      }
 
-  pub only-on : b ≡ true → (k : ℕ) → Leaves (shownOn h e y shift r) ys 8 k → k ≤ length ys
-      → Holds (onlyNight h e y shift r) ys 24 (record { matched = false; present = true; count = k })
-  only-on t k l i = rw (← u, t) (held false (shownOn h e y shift r) ys k (l .list) (omega (arith, l .few)) i (shown-order h e y shift r))
+  module _ (t : p .present ≡ true) where
+    pub day-only : e .present ≡ false → Holds (withNight (turnOf p xs) (turnOf e ys)) xs 24 p
+    day-only n = record { is = rw (t, n); ready = record { few = omega (arith, k .day .few); long = k .day .long; order = k .day .order } }
 
-  pub only-off : b ≡ false → Holds (onlyNight h e y shift r) ys 24 (record { matched = false; present = false; count = 0 })
-  only-off t = rw (← u, t) (record { is = refl; ready = record { few = omega arith; long = omega arith; order = omega arith } })
+    -- the sum is in order as its two parts are
+    pub day-and-night : e .present ≡ true → (zs : List ℕ) (r : ℕ) → length zs ≡ length xs
+        → Leaves (addR (ranges (take (p .count) xs)) (ranges (take (e .count) ys))) zs (p .count + 2 * e .count) r
+        → Holds (withNight (turnOf p xs) (turnOf e ys)) zs 24 (record { matched = p .matched; present = true; count = r })
+    day-and-night i zs r z w = record {
+      is = rw (w .list, t, i);
+      ready = record {
+        few = omega (arith, w .few, k .day .few, k .night .few);
+        long = omega (arith, w .few, k .day .few, k .night .few, k .room);
+        order = rw (w .list) (in-add (ranges (take (p .count) xs)) (ranges (take (e .count) ys)) 0 0 1440 (k .day .order) (k .night .order) (omega arith));
+      };
+    }
 
--- what two matches, today's ranges and last night's make
-abbrev turned : Bool → Bool → List Range → List Range → Turn (List Range)
-turned a b l m = record { matched = a; eval = overlaid addR (when a l) (when b m) }
-
--- today matches, or not; the two days are those of the definition
-module _ (h : Holidays) (e : Events) (r : Rule) (d y : Day) (n : ℕ) (p : d ≡ dayOf n) (q : y ≡ dayOf (n - 1)) (a : Bool) (u : a ≡ ruleMatches h r d) (ys : List ℕ) (x : Held) where
-  at-days : Holds (turned (ruleMatches h r d) (ruleMatches h r y) (shownOn h e d 0 r) (shownOn h e y 1440 r)) ys 24 x → Holds (ownR (spannedOn h e n r)) ys 24 x
+-- the two days are those of the definition
+module _ (h : Holidays) (e : Events) (r : Rule) (d y : Day) (n : ℕ) (p : d ≡ dayOf n) (q : y ≡ dayOf (n - 1)) (ys : List ℕ) (x : Held) where
+  at-days : Holds (withNight (partOn h e d 0 r) (partOn h e y 1440 r)) ys 24 x → Holds (ownR (spannedOn h e n r)) ys 24 x
   at-days w =
-      subst (λ (z : Day). Holds (turned (ruleMatches h r z) (ruleMatches h r (dayOf (n - 1))) (shownOn h e z 0 r) (shownOn h e (dayOf (n - 1)) 1440 r)) ys 24 x) p
-      (subst (λ (z : Day). Holds (turned (ruleMatches h r d) (ruleMatches h r z) (shownOn h e d 0 r) (shownOn h e z 1440 r)) ys 24 x) q w)
+      subst (λ (z : Day). Holds (withNight (partOn h e z 0 r) (partOn h e (dayOf (n - 1)) 1440 r)) ys 24 x) p
+      (subst (λ (z : Day). Holds (withNight (partOn h e d 0 r) (partOn h e z 1440 r)) ys 24 x) q w)
 
-  pub on-today : a ≡ true → (xs : List ℕ) (c : ℕ) → Leaves (shownOn h e d 0 r) xs 8 c → Holds (withNight h e y 1440 r (ranges (take c xs))) ys 24 x
-      → Holds (ownR (spannedOn h e n r)) ys 24 x
-  on-today t xs c l w = at-days (rw (← u, t) (rw (l .list) at w))
-
-  pub off-today : a ≡ false → Holds (onlyNight h e y 1440 r) ys 24 x → Holds (ownR (spannedOn h e n r)) ys 24 x
-  off-today t w = at-days (rw (← u, t) w)
+  -- what is held of the two parts may stand for them
+  pub both-days : (a : Turn (List Range)) → a ≡ partOn h e d 0 r → (b : Turn (List Range)) → b ≡ partOn h e y 1440 r → Holds (withNight a b) ys 24 x → Holds (ownR (spannedOn h e n r)) ys 24 x
+  both-days a i b j w =
+      at-days (subst (λ (z : Turn (List Range)). Holds (withNight z (partOn h e y 1440 r)) ys 24 x) i
+      (subst (λ (z : Turn (List Range)). Holds (withNight a z) ys 24 x) j w))

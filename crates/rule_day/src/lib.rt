@@ -1,31 +1,14 @@
 // What one rule shows of a day: today's spans, and what is left of last night.
 ghost use mathlib.Core.Path.{_≡_};
-ghost use lib.ListN.{take};
-ghost use Rattle.ranges.specs.Words.{ranges};
-ghost use Rattle.schedule.specs.Rooms.{Leaves};
-ghost use Rattle.date_filter.specs.Filter.{images, ruleMatches};
+ghost use Rattle.date_filter.specs.Filter.{images};
 ghost use Rattle.reading.specs.Ranging.{ownR};
-ghost use Rattle.operators.specs.Rooms.{Holds};
+ghost use Rattle.operators.specs.Rooms.{turnOf, Holds};
 ghost use Rattle.rule_day.specs.Parts.{kindOn, spannedOn};
-ghost use Rattle.rule_day.specs.Ready.{shownOn, withNight, onlyNight, DayReady, PartReady, NightReady, RuleReady};
+ghost use Rattle.rule_day.specs.Ready.{partOn, withNight, DayReady, PartReady, NightReady, RuleReady};
 use days::Day;
 use operators::Held;
 use rules::Rule;
 use time_filter::Events;
-
-fn matches_on(
-    public: &[u8],
-    public_unknown: &[u8],
-    school: &[u8],
-    school_unknown: &[u8],
-    rule: Rule,
-    d: Day,
-) -> bool
-    requires { ⌜ DayReady (images (now public) (now «public_unknown») (now school) (now «school_unknown»)) rule d ⌝ }
-    ensures { λ r. ⌜ r ≡ ruleMatches (images (now (public .entry)) (now («public_unknown» .entry)) (now (school .entry)) (now («school_unknown» .entry))) rule d ⌝ }
-{
-    date_filter::rule_matches(public, public_unknown, school, school_unknown, rule, d)
-}
 
 // The kind of a rule that matches day d.
 fn kind_on(
@@ -45,7 +28,7 @@ fn kind_on(
     rule.kind
 }
 
-// The ranges of a rule that matches day d, on the day that begins `shift` minutes after it.
+// Whether the rule matches day d and what it then shows of the day that begins `shift` minutes after it.
 fn part_in(
     public: &[u8],
     public_unknown: &[u8],
@@ -56,88 +39,17 @@ fn part_in(
     shift: u16,
     rule: Rule,
     room: &mut [u32],
-) -> usize
-    requires { ⌜ PartReady (images (now public) (now «public_unknown») (now school) (now «school_unknown»)) rule d (now room) ⌝ }
-    ensures { λ r. ⌜ Leaves (shownOn (images (now (public .entry)) (now («public_unknown» .entry)) (now (school .entry)) (now («school_unknown» .entry))) row d shift rule) (now (room .exit)) 8 r ⌝ }
-{
-    let kind = kind_on(public, public_unknown, school, school_unknown, rule, d);
-    let cuts = time_filter::cut_spans(row, d, shift, rule);
-    let words = cuts.words;
-    schedule::build_in(&words, cuts.count, kind, rule.comment, room)
-}
-
-// Puts what day d shows of the day that begins `shift` minutes after it over that day's n ranges.
-fn with_night(
-    public: &[u8],
-    public_unknown: &[u8],
-    school: &[u8],
-    school_unknown: &[u8],
-    row: Events,
-    d: Day,
-    shift: u16,
-    rule: Rule,
-    room: &mut [u32],
-    n: usize,
 ) -> Held
-    requires { ⌜ NightReady (images (now public) (now «public_unknown») (now school) (now «school_unknown»)) rule d (now room) n ⌝ }
-    ensures { λ r. ⌜ Holds (withNight (images (now (public .entry)) (now («public_unknown» .entry)) (now (school .entry)) (now («school_unknown» .entry))) row d shift rule (ranges (take n (now (room .entry))))) (now (room .exit)) 24 r ⌝ }
+    requires { ⌜ PartReady (images (now public) (now «public_unknown») (now school) (now «school_unknown»)) rule d (now room) ⌝ }
+    ensures { λ r. ⌜ Holds (partOn (images (now (public .entry)) (now («public_unknown» .entry)) (now (school .entry)) (now («school_unknown» .entry))) row d shift rule) (now (room .exit)) 8 r ⌝ }
 {
-    if matches_on(public, public_unknown, school, school_unknown, rule, d) {
-        let mut night = [0u32; 16];
-        let m = part_in(
-            public,
-            public_unknown,
-            school,
-            school_unknown,
-            row,
-            d,
-            shift,
-            rule,
-            &mut night,
-        );
-        let count = schedule::add_in(room, n, &night, m);
+    if date_filter::rule_matches(public, public_unknown, school, school_unknown, rule, d) {
+        let kind = kind_on(public, public_unknown, school, school_unknown, rule, d);
+        let cuts = time_filter::cut_spans(row, d, shift, rule);
+        let words = cuts.words;
+        let count = schedule::build_in(&words, cuts.count, kind, rule.comment, room);
         return Held {
             matched: true,
-            present: true,
-            count,
-        };
-    }
-    Held {
-        matched: true,
-        present: true,
-        count: n,
-    }
-}
-
-// What day d shows of the day that begins `shift` minutes after it, which the rule does not match.
-fn only_night(
-    public: &[u8],
-    public_unknown: &[u8],
-    school: &[u8],
-    school_unknown: &[u8],
-    row: Events,
-    d: Day,
-    shift: u16,
-    rule: Rule,
-    room: &mut [u32],
-) -> Held
-    requires { ⌜ PartReady (images (now public) (now «public_unknown») (now school) (now «school_unknown»)) rule d (now room) ⌝ }
-    ensures { λ r. ⌜ Holds (onlyNight (images (now (public .entry)) (now («public_unknown» .entry)) (now (school .entry)) (now («school_unknown» .entry))) row d shift rule) (now (room .exit)) 24 r ⌝ }
-{
-    if matches_on(public, public_unknown, school, school_unknown, rule, d) {
-        let count = part_in(
-            public,
-            public_unknown,
-            school,
-            school_unknown,
-            row,
-            d,
-            shift,
-            rule,
-            room,
-        );
-        return Held {
-            matched: false,
             present: true,
             count,
         };
@@ -146,6 +58,30 @@ fn only_night(
         matched: false,
         present: false,
         count: 0,
+    }
+}
+
+// Puts the night's part e over the day's part p, which stands in the room.
+fn with_night(p: Held, room: &mut [u32], e: Held, night: &[u32]) -> Held
+    requires { ⌜ NightReady p (now room) e (now night) ⌝ }
+    ensures { λ r. ⌜ Holds (withNight (turnOf p (now (room .entry))) (turnOf e (now (night .entry)))) (now (room .exit)) 24 r ⌝ }
+{
+    if p.present {
+        if e.present {
+            let count = schedule::add_in(&mut *room, p.count, night, e.count);
+            return Held {
+                matched: p.matched,
+                present: true,
+                count,
+            };
+        }
+        return p;
+    }
+    ranges::copy_in(night, e.count, &mut *room);
+    Held {
+        matched: p.matched,
+        present: e.present,
+        count: e.count,
     }
 }
 
@@ -164,32 +100,19 @@ pub fn rule_schedule_at(
     requires { ⌜ RuleReady (images (now public) (now «public_unknown») (now school) (now «school_unknown»)) rule today yesterday (now room) ⌝ }
     ensures { λ r. ⌜ Holds (ownR (spannedOn (images (now (public .entry)) (now («public_unknown» .entry)) (now (school .entry)) (now («school_unknown» .entry))) row (today .number) rule)) (now (room .exit)) 24 r ⌝ }
 {
-    if matches_on(public, public_unknown, school, school_unknown, rule, today) {
-        let n = part_in(
-            public,
-            public_unknown,
-            school,
-            school_unknown,
-            row,
-            today,
-            0,
-            rule,
-            &mut *room,
-        );
-        return with_night(
-            public,
-            public_unknown,
-            school,
-            school_unknown,
-            row,
-            yesterday,
-            1440,
-            rule,
-            room,
-            n,
-        );
-    }
-    only_night(
+    let p = part_in(
+        public,
+        public_unknown,
+        school,
+        school_unknown,
+        row,
+        today,
+        0,
+        rule,
+        &mut *room,
+    );
+    let mut night = [0u32; 16];
+    let e = part_in(
         public,
         public_unknown,
         school,
@@ -198,6 +121,7 @@ pub fn rule_schedule_at(
         yesterday,
         1440,
         rule,
-        room,
-    )
+        &mut night,
+    );
+    with_night(p, room, e, &night)
 }

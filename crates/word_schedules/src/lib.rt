@@ -4,7 +4,7 @@ ghost use mathlib.Core.Bool.{true};
 ghost use Prim.Native.Nat.{_≤_};
 ghost use lib.ListN.{length, take};
 ghost use Rattle.schedule.specs.Schedules.{valid, buildOf, additionOf};
-ghost use Rattle.listing.specs.Writing.{says, Answers};
+ghost use Rattle.listing.specs.Writing.{Answers};
 ghost use Rattle.word_schedules.specs.Stored.{offered, Fits, Stores};
 use listing::Written;
 
@@ -16,16 +16,6 @@ fn is_offered(words: &[u32]) -> bool
         return ranges::in_order(words, words.len());
     }
     false
-}
-
-fn refuse(refusal: u8, place: usize) -> Written
-    ensures { λ r. ⌜ r ≡ says refusal place 0 ⌝ }
-{
-    Written {
-        refusal,
-        place,
-        count: 0,
-    }
 }
 
 // The first n words to the front of `out`, if they fit.
@@ -41,7 +31,7 @@ fn store(words: &[u32], n: usize, out: &mut [u32]) -> Written
             count: n,
         };
     }
-    refuse(9, n)
+    listing::refuse(9, n)
 }
 
 // The runs of the given spans (start in the upper half of a word, end in the lower), in one state.
@@ -54,7 +44,7 @@ pub fn build(given: &[u32], kind: u8, comment: u8, out: &mut [u32]) -> Written
         let w = s.words;
         return store(&w, s.len, &mut *out);
     }
-    refuse(answer.refusal, answer.place as usize)
+    listing::refuse(answer.refusal, answer.place as usize)
 }
 
 // The second over the first.
@@ -69,7 +59,7 @@ fn added(a: &[u32], b: &[u32], out: &mut [u32]) -> Written
     if r <= 64 {
         return store(&room, r, &mut *out);
     }
-    refuse(8, 0)
+    listing::refuse(8, 0)
 }
 
 pub fn addition(a: &[u32], b: &[u32], out: &mut [u32]) -> Written
@@ -79,9 +69,9 @@ pub fn addition(a: &[u32], b: &[u32], out: &mut [u32]) -> Written
         if is_offered(b) {
             return added(a, b, &mut *out);
         }
-        return refuse(10, 1);
+        return listing::refuse(10, 1);
     }
-    refuse(10, 0)
+    listing::refuse(10, 0)
 }
 
 pub fn write_listing(words: &[u32], out: &mut [u32]) -> Written
@@ -90,5 +80,5 @@ pub fn write_listing(words: &[u32], out: &mut [u32]) -> Written
     if is_offered(words) {
         return listing::write_in(words, words.len(), &mut *out);
     }
-    refuse(10, 0)
+    listing::refuse(10, 0)
 }

@@ -23,11 +23,17 @@ same-length c = search needs
 returns : tie.Need-returns
 returns c = let L = c .before .before in let O = L .before .before .before in let T = O .before in let X = T .before in let S = X .before in let I = S .before .before in dated _ _ _ _ _ (I .read-inputs .ensures) (S .if1 .taken) (sym (X .exists .ensures) ∙ T .if2 .taken) _ (O .day-on .ensures) _ _ _ (L .list-ranges .ensures)
 
+refuse-requires : tie.Need-refuse-requires
+refuse-requires c κs = search needs
+
 returns-2 : tie.Need-returns-2
-returns-2 c = let X = c .before in let S = X .before in let I = S .before .before in no-date _ _ _ _ _ (I .read-inputs .ensures) (S .if1 .taken) _ (sym (X .exists .ensures) ∙ c .if2 .left)
+returns-2 c = let F = c .before in let X = F .before in let S = X .before in let I = S .before .before in no-date _ _ _ _ _ (I .read-inputs .ensures) (S .if1 .taken) _ (sym (X .exists .ensures) ∙ F .if2 .left) _ (c .refuse .ensures)
+
+refuse-requires-2 : tie.Need-refuse-requires-2
+refuse-requires-2 c κs = search needs
 
 returns-3 : tie.Need-returns-3
-returns-3 c = let I = c .before .before in inputs-refused _ _ _ _ _ (I .read-inputs .ensures) _ (c .if1 .left)
+returns-3 c = let E = c .before in let I = E .before .before in inputs-refused _ _ _ _ _ (I .read-inputs .ensures) _ (E .if1 .left) _ (c .refuse2 .ensures)
 
 pub list-day-spec : {M : Type 1} → statement M
 list-day-spec =
@@ -39,5 +45,7 @@ list-day-spec =
     list-ranges-requires
     same-length
     returns
+    refuse-requires
     returns-2
+    refuse-requires-2
     returns-3)

@@ -22,11 +22,14 @@ same-length c = search needs
 returns : tie.Need-returns
 returns c = let W = c .before .before in let T = W .before .before .before in let A = T .before .before .before in day-listed _ _ _ (A .schedule-at .ensures) (T .if1 .taken) _ _ _ (W .write-in .ensures)
 
-cast-t18 : tie.Need-cast-t18
-cast-t18 c = search needs
+cast-refuse : tie.Need-cast-refuse
+cast-refuse c = search needs
+
+refuse-requires : tie.Need-refuse-requires
+refuse-requires c κs = search needs
 
 returns-2 : tie.Need-returns-2
-returns-2 c = let E = c .before in let A = E .before .before .before in day-refused _ _ _ (A .schedule-at .ensures) (E .if1 .left) _
+returns-2 c = let E = c .before .before in let A = E .before .before .before in day-refused _ _ _ (A .schedule-at .ensures) (E .if1 .left) _ _ (c .refuse .ensures)
 
 pub list-ranges-spec : {M : Type 1} → statement M
 list-ranges-spec =
@@ -38,5 +41,6 @@ list-ranges-spec =
     write-in-requires
     same-length
     returns
-    cast-t18
+    cast-refuse
+    refuse-requires
     returns-2)

@@ -24,8 +24,11 @@ same-length c = search needs
 returns : tie.Need-returns
 returns c = let C = c .before .before in let I = C .before .before .before in let Ls = I .before .before in let y : 129 ≤ length (Ls .list-in .last .1 .1 .0) = search needs in long-enough _ _ _ _ (Ls .list-in .ensures) y (I .if1 .taken) _ (C .copy-in .ensures)
 
+refuse-requires : tie.Need-refuse-requires
+refuse-requires c κs = search needs
+
 returns-2 : tie.Need-returns-2
-returns-2 c = let Ls = c .before .before in let y : 129 ≤ length (Ls .list-in .last .1 .1 .0) = search needs in too-short _ _ _ _ (Ls .list-in .ensures) y (c .if1 .left)
+returns-2 c = let E = c .before in let Ls = E .before .before in let y : 129 ≤ length (Ls .list-in .last .1 .1 .0) = search needs in rw (c .refuse .ensures) (too-short _ _ _ _ (Ls .list-in .ensures) y (E .if1 .left))
 
 pub write-in-spec : {M : Type 1} → statement M
 write-in-spec =
@@ -37,4 +40,5 @@ write-in-spec =
     copy-in-requires
     same-length
     returns
+    refuse-requires
     returns-2)

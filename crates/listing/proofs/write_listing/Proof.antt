@@ -21,8 +21,11 @@ same-length c = search needs
 returns : tie.Need-returns
 returns c = let W = c .before .before in let T = W .before .before .before .before in let Q = T .before in let D = Q .before .before in good-schedule (D .args .s) _ (Q .is-valid .ensures) _ _ _ (T .if1 .taken) (W .write-in .ensures)
 
+refuse-requires : tie.Need-refuse-requires
+refuse-requires c κs = search needs
+
 returns-2 : tie.Need-returns-2
-returns-2 c = let Q = c .before in let D = Q .before .before in bad-schedule (D .args .s) _ (Q .is-valid .ensures) _ (c .if1 .left)
+returns-2 c = let E = c .before in let Q = E .before in let D = Q .before .before in rw (c .refuse .ensures) (bad-schedule (D .args .s) _ (Q .is-valid .ensures) _ (E .if1 .left))
 
 pub write-listing-spec : {M : Type 1} → statement M
 write-listing-spec =
@@ -33,4 +36,5 @@ write-listing-spec =
     write-in-requires
     same-length
     returns
+    refuse-requires
     returns-2)

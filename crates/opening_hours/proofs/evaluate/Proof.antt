@@ -18,8 +18,11 @@ abbrev μ-loop : tie.MeasureT-loop
 μ-loop public public-unknown school school-unknown row today yesterday room₀ sheet n h₀ i₀ room h i =
     n - i
 
+nothing-held-requires : tie.Need-nothing-held-requires Inv-loop μ-loop
+nothing-held-requires c κs = tt
+
 loop-holds : tie.Need-loop-holds Inv-loop μ-loop
-loop-holds c = let D = c .before .before .before .before .before in let g = D .good .1 .1 .1 .1 .1 .1 .1 .0 in let z : length (D .args .t8 .rules) ≡ 32 = search (needs, length-mapped, g) in fold-begin _ _ _ _ _ _ z (D .pre)
+loop-holds c = let D = c .before .before .before .before .before .before in let g = D .good .1 .1 .1 .1 .1 .1 .1 .0 in let z : length (D .args .t8 .rules) ≡ 32 = search (needs, length-mapped, g) in fold-begin _ _ _ _ _ _ _ (c .nothing-held .ensures) z (D .pre)
 
 mul-rule : tie.Need-mul-rule Inv-loop μ-loop
 mul-rule c = omega arith
@@ -39,14 +42,17 @@ loop-less c = omega arith
 loop-again : tie.Need-loop-again Inv-loop μ-loop
 loop-again c = let T = c .before .before .before .before in let I = T .before .before .before in fold-on _ _ _ _ _ _ _ _ _ (I .before .loop .inv) _ (I .loop-test .taken) _ (search needs) _ (T .rule-turn .ensures) (omega (arith, c .if1 .taken))
 
-cast-t22 : tie.Need-cast-t22 Inv-loop μ-loop
-cast-t22 c = omega arith
+cast-refused-at : tie.Need-cast-refused-at Inv-loop μ-loop
+cast-refused-at c = omega arith
+
+refused-at-requires : tie.Need-refused-at-requires Inv-loop μ-loop
+refused-at-requires c κs = tt
 
 same-length : tie.Need-same-length Inv-loop μ-loop
 same-length c = search needs
 
 returns : tie.Need-returns Inv-loop μ-loop
-returns c = let T = c .before .before .before .before in let I = T .before .before .before in fold-stop _ _ _ _ _ _ _ _ _ (I .before .loop .inv) _ (I .loop-test .taken) _ (search needs) _ (T .rule-turn .ensures) (omega (arith, c .if1 .left))
+returns c = let E = c .before in let T = E .before .before .before .before in let I = T .before .before .before in fold-stop _ _ _ _ _ _ _ _ _ (I .before .loop .inv) _ (I .loop-test .taken) _ (search needs) _ (T .rule-turn .ensures) (omega (arith, E .if1 .left)) _ (c .refused-at .ensures)
 
 day-list-requires : tie.Need-day-list-requires Inv-loop μ-loop
 day-list-requires c κs = c .before .before .loop .inv .ready
@@ -63,6 +69,7 @@ evaluate-spec =
     (tie.spec
     Inv-loop
     μ-loop
+    nothing-held-requires
     loop-holds
     mul-rule
     element-copy-out-rule
@@ -70,7 +77,8 @@ evaluate-spec =
     add-i
     loop-less
     loop-again
-    cast-t22
+    cast-refused-at
+    refused-at-requires
     same-length
     returns
     day-list-requires
