@@ -1,7 +1,7 @@
 //! Nanoseconds of this thread's processor time, which a busy machine disturbs less than the clock on the wall.
 
-/// The rounds of a measurement; the fastest counts.
-const ROUNDS: usize = 25;
+/// The rounds of a measurement, about a second of them, since a shared machine is slowed for longer than a few; the fastest counts.
+const ROUNDS: usize = 1000;
 /// How long a round lasts at least.
 const ROUND_NS: u64 = 1_000_000;
 
