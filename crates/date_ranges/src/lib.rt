@@ -2,7 +2,6 @@
 ghost use mathlib.Core.Path.{_≡_};
 ghost use Prim.Native.Nat.{_+_, _≤_, _<_};
 ghost use lib.IntN.{natAbs};
-ghost use Rattle.calendar.specs.Parts.{Settled};
 ghost use Rattle.days.specs.DayOf.{dayOf};
 ghost use Rattle.date_bounds.specs.Bounds.{boundOn, BoundOk, Before};
 ghost use Rattle.date_ranges.specs.Ranges.{inside, proper, firstProper, datedMatch, isLeapDay, leapDayIn, leapDaysMatch, around, otherMatch, undatedMatch, datesMatch};

@@ -1,7 +1,6 @@
 // Starts and ends of the years around a day, as day numbers, paired by number; 0 is no day.
 ghost use mathlib.Core.Path.{_≡_};
 ghost use Prim.Native.Nat.{_≤_, _<_};
-ghost use lib.ListN.{length};
 ghost use Rattle.intervals.specs.Intervals.{lastDay, intervals, decides};
 ghost use Rattle.intervals.specs.Search.{firstFrom};
 

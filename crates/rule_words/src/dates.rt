@@ -1,6 +1,6 @@
 // Dates with an offset.
 ghost use mathlib.Core.Path.{_≡_};
-ghost use Rattle.rule_words.specs.Words.{flaggedGood, fixedGood, nthGood, offsetGood};
+ghost use Rattle.rule_words.specs.Words.{flaggedGood, fixedGood, nthGood};
 ghost use Rattle.rule_words.specs.Words.{noDate, fixedTaken, nthTaken, easterTaken, dateTaken};
 use crate::DateTaken;
 use rules::Date;

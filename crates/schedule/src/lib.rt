@@ -9,7 +9,7 @@ ghost use Rattle.ranges.specs.Insertion.{addR};
 ghost use Rattle.ranges.specs.Build.{buildR, endsB, spans};
 ghost use Rattle.ranges.specs.Closed.{blankB, shutB, dropR};
 ghost use Rattle.ranges.specs.Words.{rangeOf, ranges};
-ghost use Rattle.schedule.specs.Schedules.{view, made, valid, refused, accepted, within, buildOf, additionOf, dropOf};
+ghost use Rattle.schedule.specs.Schedules.{view, made, valid, refused, within, buildOf, additionOf, dropOf};
 ghost use Rattle.schedule.specs.Rooms.{Leaves, AddReady, BuildReady};
 
 // Puts the first m ranges of b over the first n of the room, from last to first.
