@@ -1,4 +1,6 @@
 // What the program writes for its input.
+#![tactic(auto)]
+
 ghost use Rattle.std.specs.Prelude.{◌+◌, ◌≤◌, length};
 ghost use Rattle.framing.specs.Reading.{parts_at, Within};
 ghost use Rattle.answers.specs.Answers.{answer_text, day_text, text_of, EventsAt, DateAt, Listed, Responds};

@@ -1,4 +1,6 @@
 // Bit fields of an image, most significant bit first, read by whole bytes; and the place of a reading, which keeps its first refusal.
+#![tactic(auto)]
+
 ghost use Rattle.std.specs.Prelude.{◌≡◌, ◌+◌, ◌-◌, ◌*◌, ◌/◌, ◌%◌, ◌≤◌, ◌<◌, ◌^◌, length, nat_abs};
 ghost use Rattle.bits.specs.Bits.{bits, field_at, ahead_of};
 ghost use Rattle.bits.specs.Place.{bit_of, within, unmeant, signed_at, Found, Number};

@@ -1,4 +1,6 @@
 // The proleptic Gregorian calendar. A day's number counts from 1 January of the year 0, which is day 1.
+#![tactic(auto)]
+
 ghost use Rattle.std.specs.Prelude.{◌≡◌, ◌+◌, ◌-◌, ◌≤◌, ◌<◌, nat_abs};
 ghost use Rattle.calendar.specs.Calendar.{leap, month_length, before_month, before_year, year_length, day_number, date_of, weekday, iso_week};
 ghost use Rattle.calendar.specs.Moved.{moved, moved_back};

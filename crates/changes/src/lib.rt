@@ -1,4 +1,6 @@
 // The next change: over how many days, within one day's ranges, and the day behind a day.
+#![tactic(auto)]
+
 ghost use Rattle.std.specs.Prelude.{◌≡◌, ◌+◌, ◌-◌, ◌≤◌, ◌<◌};
 ghost use Rattle.days.specs.DayOf.{day_of};
 ghost use Rattle.changes.specs.Days.{asked, within};

@@ -1,4 +1,6 @@
 // The calendar's public answers: every question is answered, or refused by 7.
+#![tactic(auto)]
+
 ghost use Rattle.std.specs.Prelude.{◌≡◌};
 ghost use Rattle.date_answers.specs.Answers.{length_answer, weekday_answer, week_answer, easter_answer, apart_answer};
 

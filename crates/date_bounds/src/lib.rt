@@ -1,4 +1,6 @@
 // Dates on a year: the day numbers that an interval starts from and ends on. 0 is no day.
+#![tactic(auto)]
+
 ghost use Rattle.std.specs.Prelude.{◌≡◌, ◌+◌, ◌≤◌, ◌<◌, nat_abs};
 ghost use Rattle.calendar.specs.Calendar.{before_year};
 ghost use Rattle.easter.specs.Easter.{easter_number};

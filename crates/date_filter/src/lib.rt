@@ -1,4 +1,6 @@
 // A rule's match on a day, over the four holiday images.
+#![tactic(auto)]
+
 ghost use Rattle.std.specs.Prelude.{◌≡◌, true, ◌||◌, ◌≤◌, ◌<◌, take};
 ghost use Rattle.days.specs.DayOf.{day_of};
 ghost use Rattle.holiday_image.specs.Image.{sound};

@@ -1,4 +1,6 @@
 // The items of a rule that ask for a day's year, week, weekday or month.
+#![tactic(auto)]
+
 ghost use Rattle.std.specs.Prelude.{◌≡◌, ◌≤◌, ◌<◌, nat_abs};
 ghost use Rattle.days.specs.DayOf.{day_of};
 ghost use Rattle.date_items.specs.Items.{stepped, year_matches, week_matches, circular, flag, shifted, weekday_on, weekday_matches, months_match, year_months_match};

@@ -1,4 +1,6 @@
 // A rule's lists of years, months and dates, and weeks.
+#![tactic(auto)]
+
 ghost use Rattle.std.specs.Prelude.{◌≡◌, ◌≤◌, ◌<◌, take};
 ghost use Rattle.days.specs.DayOf.{day_of};
 ghost use Rattle.date_lists.specs.Lists.{years_match, weeks_match, monthday_matches, monthdays_match, YearItemOk, WeekItemOk, MonthdayOk, Each};

@@ -1,4 +1,6 @@
 // Ranges of dates around a day.
+#![tactic(auto)]
+
 ghost use Rattle.std.specs.Prelude.{◌≡◌, ◌+◌, ◌≤◌, ◌<◌, nat_abs};
 ghost use Rattle.days.specs.DayOf.{day_of};
 ghost use Rattle.date_bounds.specs.Bounds.{bound_on, BoundOk, Before};

@@ -1,4 +1,6 @@
 // Which dates there are to ask about, and the day of one.
+#![tactic(auto)]
+
 ghost use Rattle.std.specs.Prelude.{◌≡◌};
 ghost use Rattle.dates.specs.Exists.{in_years, is_month, is_date};
 ghost use Rattle.dates.specs.Answers.{day_answer};

@@ -1,4 +1,6 @@
 // The listing of a day, for any inputs: refused in the order rules (1 to 4), holidays (5), events (6), date (7), addition (8), output (9).
+#![tactic(auto)]
+
 ghost use Rattle.date_filter.specs.Filter.{images};
 ghost use Rattle.opening_hours.specs.Hours.{day_ranged};
 ghost use Rattle.day_listing.specs.Listed.{DayLists, Lists, Ready};

@@ -1,4 +1,6 @@
 // A day by value, with all that the filters ask of it, so that it is worked out once.
+#![tactic(auto)]
+
 ghost use Rattle.std.specs.Prelude.{◌≡◌, ◌+◌, ◌-◌, ◌≤◌, ◌<◌, nat_abs};
 ghost use Rattle.calendar.specs.Calendar.{Valid, day_number};
 ghost use Rattle.calendar.specs.Parts.{Settled};

@@ -1,4 +1,6 @@
 // Easter Sunday, by the anonymous Gregorian formula.
+#![tactic(auto)]
+
 ghost use Rattle.std.specs.Prelude.{◌≡◌, ◌≤◌};
 ghost use Rattle.calendar.specs.Calendar.{date_of};
 ghost use Rattle.easter.specs.Easter.{easter_number};

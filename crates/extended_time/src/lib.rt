@@ -1,4 +1,6 @@
 // Times from 00:00 to 48:00. A time or a sum outside is none.
+#![tactic(auto)]
+
 ghost use Rattle.std.specs.Prelude.{◌≡◌, ◌/◌, ◌%◌, pos, ◌*ℤ◌};
 ghost use Rattle.extended_time.specs.Moments.{moment_of, signed_moment, clock_time, sum_of};
 

@@ -1,4 +1,6 @@
 // Where the parts of the program's input stand.
+#![tactic(auto)]
+
 ghost use Rattle.std.specs.Prelude.{◌≡◌, ◌+◌, ◌<◌, get_or};
 ghost use Rattle.framing.specs.Reading.{whole, frame_of, Half, Behind};
 

@@ -1,4 +1,6 @@
 // Holiday images: whether one is sound, whether it has a day, and the bits of a month.
+#![tactic(auto)]
+
 ghost use Rattle.std.specs.Prelude.{◌≡◌, true, ◌&&◌, ◌+◌, ◌*◌, ◌≤◌, ◌<◌, eqb, leb, ltb, length};
 ghost use Rattle.bits.specs.Bits.{bits};
 ghost use Rattle.holiday_image.specs.Image.{first_year, year_count, month_bit, names, years_fit, exact_length, zero_fill, behind_month, real_year, real_days, sound, slot_of, sound_in};

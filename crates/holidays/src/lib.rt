@@ -1,4 +1,6 @@
 // The public answers about holiday images.
+#![tactic(auto)]
+
 ghost use Rattle.std.specs.Prelude.{◌≡◌, true, ◌+◌, ◌-◌, ◌≤◌};
 ghost use Rattle.bits.specs.Bits.{bits};
 ghost use Rattle.calendar.specs.Calendar.{day_number};

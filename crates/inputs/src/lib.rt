@@ -1,4 +1,6 @@
 // What is asked before a day is looked at, in the order of refusals: the rules (1 to 4), the holiday images (5), the event times (6).
+#![tactic(auto)]
+
 ghost use Rattle.std.specs.Prelude.{◌≡◌};
 ghost use Rattle.rule_image.specs.Reading.{no_sheet};
 ghost use Rattle.date_filter.specs.Filter.{images};

@@ -1,4 +1,6 @@
 // Insertion of a range into ranges in order, as words, in one room that is worked in place.
+#![tactic(auto)]
+
 ghost use Rattle.std.specs.Prelude.{◌≡◌, reverse, ◌+◌, ◌<◌, ◌≤◌, length, take, drop};
 ghost use Rattle.ranges.specs.States.{InOrder};
 ghost use Rattle.ranges.specs.Insertion.{join_r, join_l, insert_r};

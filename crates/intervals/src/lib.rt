@@ -1,4 +1,6 @@
 // Starts and ends of the years around a day, as day numbers, paired by number; 0 is no day.
+#![tactic(auto)]
+
 ghost use Rattle.std.specs.Prelude.{◌≡◌, ◌≤◌, ◌<◌};
 ghost use Rattle.intervals.specs.Intervals.{last_day, intervals, decides};
 ghost use Rattle.intervals.specs.Search.{first_from};

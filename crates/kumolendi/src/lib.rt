@@ -1,4 +1,6 @@
 // The library's functions for C and Rust. An answer is the refusal's number, 0 for none, in the upper half, and its place or the value in the lower.
+#![tactic(auto)]
+
 ghost use Rattle.std.specs.Prelude.{◌≡◌, ◌<◌};
 ghost use Rattle.rule_image.specs.Reading.{verdict_on};
 ghost use Rattle.holidays.specs.Answers.{check_answer, count_answer, first_answer};

@@ -1,4 +1,6 @@
 // The listing of a day: holes closed, equal neighbours joined, at most 129 entries, as words.
+#![tactic(auto)]
+
 ghost use Rattle.std.specs.Prelude.{◌≡◌, ◌≤◌, ◌<◌, length, take};
 ghost use Rattle.ranges.specs.States.{covers, state_at, lit};
 ghost use Rattle.ranges.specs.Words.{range_of, ranges};

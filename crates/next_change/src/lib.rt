@@ -1,4 +1,6 @@
 // The next change from a moment: each day in turn, from the asked one on.
+#![tactic(auto)]
+
 ghost use Rattle.std.specs.Prelude.{◌≡◌, true, ◌≤◌, ◌<◌};
 ghost use Rattle.calendar.specs.Calendar.{day_number};
 ghost use Rattle.days.specs.DayOf.{day_of};

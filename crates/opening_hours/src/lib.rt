@@ -1,4 +1,6 @@
 // The hours of a day: each rule takes its turn after the others, in one room.
+#![tactic(auto)]
+
 ghost use Rattle.std.specs.Prelude.{◌≡◌, false, map};
 ghost use Rattle.date_filter.specs.Filter.{images};
 ghost use Rattle.reading.specs.Ranging.{gives, turn_r, range_reading};

@@ -1,4 +1,6 @@
 // A rule's turn after the others: the three operators, worked in a lent room.
+#![tactic(auto)]
+
 ghost use Rattle.std.specs.Prelude.{◌≡◌, ◌&&◌, ◌||◌, ◌≤◌, length};
 ghost use Rattle.ranges.specs.Insertion.{add_r};
 ghost use Rattle.ranges.specs.Closed.{shut_b};

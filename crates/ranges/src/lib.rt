@@ -1,4 +1,6 @@
 // Ranges as words: start 11 bits, end 11, kind 2, comment 8, the listing's own form.
+#![tactic(auto)]
+
 ghost use Rattle.std.specs.Prelude.{◌≡◌, ◌≤◌, ◌<◌, length, take};
 ghost use Rattle.ranges.specs.Range.{between, touch, same, hull};
 ghost use Rattle.ranges.specs.States.{fits_b, order_b};

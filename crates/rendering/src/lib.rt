@@ -1,4 +1,6 @@
 // The program's lines, written into lent bytes. Each function stores from `at` on and answers the place behind what it stored.
+#![tactic(auto)]
+
 ghost use Rattle.std.specs.Prelude.{◌+◌, ◌*◌, ◌<◌, ◌≤◌, length};
 ghost use Rattle.ranges.specs.Words.{range_of, ranges};
 ghost use Rattle.rendering.specs.Text.{spaced, ended, time_text, kind_text, decimal, line_of, lines_of, refusal_line, bad_input};

@@ -1,5 +1,7 @@
 // What the programs that replay recorded vectors share. A line of a vector file is a question and the answer due to it,
 // each in hexadecimal digits, with a space between; a line that begins with '#' is for its reader.
+#![tactic(auto)]
+
 ghost use Rattle.std.specs.Prelude.{◌≡◌, ◌+◌, ◌*◌, ◌<◌, ◌≤◌, true, false, length, slice_index};
 ghost use Rattle.replay.specs.Replay.{begun, counted, word_at, Stands, Lined, Within};
 

@@ -1,4 +1,6 @@
 // What one rule shows of a day: today's spans, and what is left of last night.
+#![tactic(auto)]
+
 ghost use Rattle.std.specs.Prelude.{◌≡◌};
 ghost use Rattle.date_filter.specs.Filter.{images};
 ghost use Rattle.reading.specs.Ranging.{own_r};

@@ -1,4 +1,6 @@
 // The reading of a rule image, for any bytes: the sheet, or the refusal's number and place in reading order.
+#![tactic(auto)]
+
 mod fill;
 mod sheet;
 

@@ -1,4 +1,6 @@
 // A rule of an image: what it does, its five counts, its items.
+#![tactic(auto)]
+
 mod ahead;
 mod lists;
 pub mod rule;

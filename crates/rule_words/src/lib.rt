@@ -1,4 +1,6 @@
 // Items at the front of a word: judged whole, and taken apart.
+#![tactic(auto)]
+
 pub mod dates;
 pub mod spans;
 pub mod weekdays;

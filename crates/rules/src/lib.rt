@@ -1,5 +1,7 @@
 // The rules of a sheet, by value. Counted lists are arrays with a count; what stands behind the count is fixed.
 // A year of 0 is a date without a year.
+#![tactic(auto)]
+
 ghost use Rattle.std.specs.Prelude.{◌≡◌};
 ghost use Rattle.rules.specs.Nothing.{no_year, no_monthday, no_week, no_weekday, no_span, no_rule};
 

@@ -1,4 +1,6 @@
 // Schedules by value: at most 64 ranges, kept as words; additions and builds are worked in place in one room.
+#![tactic(auto)]
+
 ghost use Rattle.std.specs.Prelude.{◌≡◌, [], true, ◌+◌, ◌*◌, ◌≤◌, ◌<◌, length, take};
 ghost use Rattle.ranges.specs.States.{InOrder};
 ghost use Rattle.ranges.specs.Insertion.{add_r};

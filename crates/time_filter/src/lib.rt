@@ -1,4 +1,6 @@
 // Spans of time on a day, from its event times.
+#![tactic(auto)]
+
 ghost use Rattle.std.specs.Prelude.{◌≡◌, not, ◌≤◌, get_or};
 ghost use Rattle.time_filter.specs.Refusal.{refusal_of, event_time, event_refusal};
 ghost use Rattle.time_filter.specs.Spans.{times, event_at, time_at, before, summer, morning, not_after, start_missing, end_missing, both_missing, filled_span, later_end, wrapped_end, interval_of};

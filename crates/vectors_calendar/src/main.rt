@@ -1,4 +1,6 @@
 // Replays recorded calendar questions: two dates each, and what the public answers about dates must be.
+#![tactic(auto)]
+
 ghost use Rattle.std.specs.Prelude.{◌≤◌};
 
 use calendar::Date;

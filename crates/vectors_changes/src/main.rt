@@ -1,4 +1,6 @@
 // Replays recorded questions for the next change: the minute and the days asked about, then an input of the program shop_hours.
+#![tactic(auto)]
+
 ghost use Rattle.std.specs.Prelude.{length};
 ghost use Rattle.framing.specs.Reading.{Within};
 

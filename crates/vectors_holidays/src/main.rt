@@ -1,4 +1,6 @@
 // Replays recorded questions about holiday images.
+#![tactic(auto)]
+
 use calendar::Date;
 use holidays::{Checked, Count, First};
 use replay::Tally;

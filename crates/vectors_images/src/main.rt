@@ -1,4 +1,6 @@
 // Replays recorded rule images: what checking each must answer.
+#![tactic(auto)]
+
 use replay::Tally;
 use rule_image::Verdict;
 

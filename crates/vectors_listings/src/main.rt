@@ -1,4 +1,6 @@
 // Replays recorded inputs of the program shop_hours: the text that it must write.
+#![tactic(auto)]
+
 use replay::Tally;
 
 fn same(text: &[u8], due: &[u8]) -> bool {

@@ -1,4 +1,6 @@
 // Replays recorded builds, additions, drops and listings of schedules.
+#![tactic(auto)]
+
 ghost use Rattle.std.specs.Prelude.{◌+◌, ◌≤◌, length};
 
 use listing::Written;

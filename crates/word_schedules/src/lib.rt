@@ -1,4 +1,6 @@
 // Build, addition and listing over slices of words, as one outside the library offers and lends them.
+#![tactic(auto)]
+
 ghost use Rattle.std.specs.Prelude.{◌≡◌, true, ◌≤◌, length, take};
 ghost use Rattle.schedule.specs.Schedules.{valid, build_of, addition_of};
 ghost use Rattle.listing.specs.Writing.{Answers};
