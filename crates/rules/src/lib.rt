@@ -6,7 +6,7 @@ ghost use Rattle.std.specs.Prelude.{◌≡◌};
 ghost use Rattle.rules.specs.Nothing.{no_year, no_monthday, no_week, no_weekday, no_span, no_rule};
 
 // What a rule does to the evaluation of the rules before it.
-#[derive(Drop)]
+#[derive(Clone, Copy)]
 pub enum Operator {
     Normal,
     Additional,
@@ -14,7 +14,7 @@ pub enum Operator {
 }
 
 // One of three forms of a date; weekday 0 is Monday.
-#[derive(Drop)]
+#[derive(Clone, Copy)]
 pub enum Date {
     Fixed {
         year: u16,
@@ -32,13 +32,13 @@ pub enum Date {
     },
 }
 
-#[derive(Drop)]
+#[derive(Clone, Copy)]
 pub struct DateOffset {
     pub date: Date,
     pub offset: i16,
 }
 
-#[derive(Drop)]
+#[derive(Clone, Copy)]
 pub enum Monthday {
     Months { start: u8, end: u8 },
     YearMonths { year: u16, start: u8, end: u8 },
@@ -46,19 +46,19 @@ pub enum Monthday {
 }
 
 // A struct around the enum: a field may be an array of structs, not of enums.
-#[derive(Drop)]
+#[derive(Clone, Copy)]
 pub struct MonthdayItem {
     pub form: Monthday,
 }
 
-#[derive(Drop)]
+#[derive(Clone, Copy)]
 pub struct YearItem {
     pub start: u16,
     pub end: u16,
     pub step: u16,
 }
 
-#[derive(Drop)]
+#[derive(Clone, Copy)]
 pub struct WeekItem {
     pub start: u8,
     pub end: u8,
@@ -66,7 +66,7 @@ pub struct WeekItem {
 }
 
 // The nth flags are five bits, index 0 the highest.
-#[derive(Drop)]
+#[derive(Clone, Copy)]
 pub enum WeekdayRange {
     Fixed {
         start: u8,
@@ -81,26 +81,26 @@ pub enum WeekdayRange {
     },
 }
 
-#[derive(Drop)]
+#[derive(Clone, Copy)]
 pub struct WeekdayItem {
     pub form: WeekdayRange,
 }
 
 // A minute of the day, or an event (0 dawn, 1 sunrise, 2 sunset, 3 dusk) and minutes after it.
-#[derive(Drop)]
+#[derive(Clone, Copy)]
 pub enum Time {
     Fixed(u16),
     Variable { event: u8, offset: i16 },
 }
 
-#[derive(Drop)]
+#[derive(Clone, Copy)]
 pub struct TimeSpan {
     pub start: Time,
     pub end: Time,
 }
 
 // Kinds: 0 open, 1 closed, 2 unknown.
-#[derive(Drop)]
+#[derive(Clone, Copy)]
 pub struct Rule {
     pub operator: Operator,
     pub kind: u8,

@@ -1,6 +1,5 @@
 use mathlib.Core.Path.{◌≡◌, refl, ap, sym, ◌∙◌}
 use mathlib.Core.Bool.{false}
-use mathlib.Core.Logic.{⊎_elim}
 use Prim.Native.Nat.{◌+◌, ◌≤◌, ◌-◌}
 use native.Mathlib.Omega.{arith}
 use borrow.Author.Rules.{rules}
@@ -10,6 +9,7 @@ use Rattle.intervals.specs.Search.{first_from, plain}
 use Rattle.intervals.proofs.Same.{same}
 use Rattle.intervals.proofs.Walk.{plain-skip, plain-stop, plain-go, plain_end, end_none, end-some}
 use Rattle.intervals.proofs.within.Goals as goal
+use Rattle.intervals.proofs.within.Goals.{then-s-ne0+else-e-eq0+else-n-e, else-s-ne0}
 
 pub loop-i-init : goal.loop-i-init
 loop-i-init c = (search rules, refl)
@@ -41,17 +41,18 @@ loop-i-preserved c =
     let s = get_or a.starts.now l.i 0 in
     let es = a.ends.now in
     let rest = drop (l.i + 1) a.starts.now in
-    ⊎_elim
-    (λ w. (
-      search rules,
-      l.invariant.1 ∙ plain-go a.n l.some a.starts.now es l.i (search rules) w.0.taken
-          (omega (arith, end-some s es (λ z. w.2.left (w.1.ensures ∙ z)), w.1.ensures, w.3.left)) ∙ ap (λ b. plain a.n b rest es) (sym w.4),
-    ))
-    (λ w. (
-      search rules,
-      l.invariant.1 ∙ plain-skip a.n l.some a.starts.now es l.i (search rules) w.0.left ∙ ap (λ b. plain a.n b rest es) (sym w.1),
-    ))
-    c.if-s-ne0.branch
+    elim c.if-s-ne0.branch [
+      | then-s-ne0+else-e-eq0+else-n-e w ↦ (
+        search rules,
+        l.invariant.1 ∙ plain-go a.n l.some a.starts.now es l.i (search rules) w.if-s-ne0.true
+            (omega (arith, end-some s es (λ z. w.if-e-eq0.false (w.first_from-e.ensures ∙ z)), w.first_from-e.ensures, w.if-n-e.false))
+            ∙ ap (λ b. plain a.n b rest es) (sym w.some-is),
+      )
+      | else-s-ne0 w ↦ (
+        search rules,
+        l.invariant.1 ∙ plain-skip a.n l.some a.starts.now es l.i (search rules) w.if-s-ne0.false ∙ ap (λ b. plain a.n b rest es) (sym w.some-is),
+      )
+    ]
 
 pub returns-then-some : goal.returns-then-some
 returns-then-some c =
