@@ -7,26 +7,26 @@ ghost use Rattle.bits.specs.Place.{bit_of, within, unmeant, signed_at, Found, Nu
 ghost use Rattle.bits.specs.Signed.{signed_of};
 
 // The value of a field, or that it runs past the image.
-#[derive(Drop)]
+#[derive(Clone, Copy)]
 pub enum Field {
     Value(u32),
     Past,
 }
 
 // Where a reading stands: at a bit, or refused by a number at a bit.
-#[derive(Drop)]
+#[derive(Clone, Copy)]
 pub enum Place {
     At(usize),
     Refused(u8, usize),
 }
 
-#[derive(Drop)]
+#[derive(Clone, Copy)]
 pub struct Num {
     pub value: u32,
     pub place: Place,
 }
 
-#[derive(Drop)]
+#[derive(Clone, Copy)]
 pub struct SignedNum {
     pub value: i16,
     pub place: Place,

@@ -68,7 +68,7 @@ pub fn before_year(y: u32) -> u32
     365 * y + (y + 3) / 4 + (centuries + 3) / 4 - centuries
 }
 
-#[derive(Drop)]
+#[derive(Clone, Copy)]
 pub struct Date {
     pub year: u32,
     pub month: u32,
@@ -83,7 +83,7 @@ pub fn day_number(d: Date) -> u32
 }
 
 // A year and a day of it, from 1.
-#[derive(Drop)]
+#[derive(Clone, Copy)]
 pub struct YearDay {
     pub year: u32,
     pub day: u32,

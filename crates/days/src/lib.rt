@@ -8,7 +8,7 @@ ghost use Rattle.calendar.specs.Moved.{moved_back};
 ghost use Rattle.days.specs.DayOf.{day_of};
 
 // The number counts from 0000-01-01 = 1, the ordinal is the day of the year, the length is its month's, the week the ISO week.
-#[derive(Drop)]
+#[derive(Clone, Copy)]
 pub struct Day {
     pub number: u32,
     pub year: u32,

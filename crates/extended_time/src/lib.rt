@@ -5,12 +5,12 @@ ghost use Rattle.std.specs.Prelude.{◌≡◌, ◌/◌, ◌%◌, pos, ◌*ℤ◌
 ghost use Rattle.extended_time.specs.Moments.{moment_of, signed_moment, clock_time, sum_of};
 
 // Minutes from 00:00. The functions below make 0 to 2880 only, and read any number.
-#[derive(Drop)]
+#[derive(Clone, Copy)]
 pub struct ExtendedTime {
     minutes: u16,
 }
 
-#[derive(Drop)]
+#[derive(Clone, Copy)]
 pub enum Moment {
     At(ExtendedTime),
     Nothing,

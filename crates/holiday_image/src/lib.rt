@@ -9,7 +9,7 @@ ghost use Rattle.holiday_image.specs.Parts.{YearsOf, Formed, InYears};
 use calendar::Date;
 
 // The first year and how many there are: the head's first 22 bits.
-#[derive(Drop)]
+#[derive(Clone, Copy)]
 pub struct Years {
     pub first: u32,
     pub count: u32,

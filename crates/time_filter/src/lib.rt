@@ -11,7 +11,7 @@ use extended_time::{ExtendedTime, Moment};
 use rules::{Rule, Time, TimeSpan};
 
 // A day's event times: minutes 0 to 1439, or 65535 for none.
-#[derive(Drop)]
+#[derive(Clone, Copy)]
 pub struct Events {
     pub dawn: u16,
     pub sunrise: u16,
@@ -19,7 +19,7 @@ pub struct Events {
     pub dusk: u16,
 }
 
-#[derive(Drop)]
+#[derive(Clone, Copy)]
 pub enum EventCheck {
     Accepted,
     Refused(u8),
@@ -131,7 +131,7 @@ fn is_not_after(start: Time, end: Time) -> bool
 }
 
 // Minutes of the span's own day, from `start` up to, not including, `end`; the next day's go on from 1440.
-#[derive(Drop)]
+#[derive(Clone, Copy)]
 pub enum Interval {
     FromTo { start: u16, end: u16 },
     NoCover,

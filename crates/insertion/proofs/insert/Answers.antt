@@ -5,4 +5,4 @@ use borrow.Author.Rules.{rules}
 use Rattle.insertion.proofs.insert.Goals as goal
 
 pub returns : goal.returns
-returns c = inserted _ _ _ _ _ _ _ _ c.planned-p.ensures c.before.before.before.before.before.before.before.before.before.before.before.before.before.requires.0 refl refl c.shift.ensures c.put_three.ensures
+returns c = inserted _ _ _ _ _ _ _ _ c.planned-p.ensures c.requires.0 refl refl c.shift.ensures c.put_three.ensures

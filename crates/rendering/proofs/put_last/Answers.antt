@@ -9,4 +9,4 @@ pub returns : goal.returns
 returns c =
     let d = c.put_decimal-end in
     let g = c.args in
-    then (decimal g.n) (10 ∷ []) g.out.now d.new.0 _ g.at d.result _ d.ensures (one_more _ _ 10)
+    then (decimal g.n) (10 ∷ []) g.out.now d.new.out _ g.at d.result _ d.ensures (one_more _ _ 10)
