@@ -94,7 +94,7 @@ pub fn is_shut(words: &[u32], n: usize) -> bool
     true
 }
 
-#[derive(Drop)]
+#[derive(Clone, Copy)]
 pub struct Schedule {
     pub len: usize,
     pub words: [u32; 64],

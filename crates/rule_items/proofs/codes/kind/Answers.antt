@@ -8,4 +8,4 @@ pub returns-in-0-to-2 : goal.returns-in-0-to-2
 returns-in-0-to-2 c = coded _ 2 0 2 3 (omega arith) _ _ _ c.number-code.ensures (omega arith) (omega arith)
 
 pub returns-in_default : goal.returns-in_default
-returns-in_default c = uncoded _ 2 0 2 3 (omega arith) _ _ _ _ c.number-code.ensures (too-high 0 2 _ c.if-c-lt3.false) c.no_meaning-q.ensures
+returns-in_default c = uncoded _ 2 0 2 3 (omega arith) _ _ _ _ c.number-code.ensures (too-high 0 2 c.number-code.result.value (omega arith)) c.no_meaning-q.ensures

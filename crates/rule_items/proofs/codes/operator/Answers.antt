@@ -29,8 +29,7 @@ returns-in-2 c = record { is = tag-right form _ 2 2 3 (omega arith) _ _ c.number
 pub returns-in_default : goal.returns-in_default
 unfolding operator_at
 returns-in_default c =
-    let r = c.in_default.rest in
     record {
-      is = tag-wrong form _ 2 2 3 (omega arith) _ _ c.number-code.ensures.is _ c.no_meaning-q.ensures (above-two _ r.0.0.1 r.0.1 r.1);
+      is = tag-wrong form _ 2 2 3 (omega arith) _ _ c.number-code.ensures.is _ c.no_meaning-q.ensures (omega arith);
       near = omega (arith, unmeant-low _ _ _ c.no_meaning-q.ensures);
     }

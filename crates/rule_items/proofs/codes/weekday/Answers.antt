@@ -8,4 +8,4 @@ pub returns-in-0-to-6 : goal.returns-in-0-to-6
 returns-in-0-to-6 c = coded _ 3 0 6 7 (omega arith) _ _ _ c.number-code.ensures (omega arith) (omega arith)
 
 pub returns-in_default : goal.returns-in_default
-returns-in_default c = uncoded _ 3 0 6 7 (omega arith) _ _ _ _ c.number-code.ensures (too-high 0 6 _ c.if-c-lt7.false) c.no_meaning-q.ensures
+returns-in_default c = uncoded _ 3 0 6 7 (omega arith) _ _ _ _ c.number-code.ensures (too-high 0 6 c.number-code.result.value (omega arith)) c.no_meaning-q.ensures

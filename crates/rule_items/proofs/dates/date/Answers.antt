@@ -25,9 +25,8 @@ returns-in-2 c = record { is = c.easter_date.ensures.is ∙ tag-right (date_form
 pub returns-in_default : goal.returns-in_default
 unfolding date_at
 returns-in_default c =
-    let r = c.in_default.rest in
     record {
       is = c.fixed_date-in_default.ensures.is
-          ∙ tag-wrong (date_form _) _ 2 2 3 (omega arith) _ _ c.number-tag.ensures.is _ c.no_meaning-q.ensures (above-two _ r.0.0.1 r.0.1 r.1);
+          ∙ tag-wrong (date_form _) _ 2 2 3 (omega arith) _ _ c.number-tag.ensures.is _ c.no_meaning-q.ensures (omega arith);
       near = omega (arith, unmeant-low _ _ _ c.no_meaning-q.ensures);
     }

@@ -5,4 +5,4 @@ use Rattle.rule_items.proofs.dates.fixed_date.Goals as goal
 
 pub returns : goal.returns
 returns c =
-    record { is = fixed_made _ _ _ _ _ c.flagged_year-year.ensures.0.is c.number-month.ensures.is c.number-day.ensures.is; near = search rules }
+    record { is = fixed_made _ _ _ _ _ c.flagged_year-year.ensures.found.is c.number-month.ensures.is c.number-day.ensures.is; near = search rules }

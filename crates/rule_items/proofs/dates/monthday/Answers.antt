@@ -29,10 +29,9 @@ returns-in-2 c = record { is = c.dates.ensures.is ∙ tag-right (monthday_form _
 pub returns-in_default : goal.returns-in_default
 unfolding monthday_at
 returns-in_default c =
-    let r = c.in_default.rest in
     let a = c.args in
     record {
       is = c.months-in_default.ensures.is
-          ∙ tag-wrong (monthday_form _ a.edition) _ 2 2 3 (omega arith) _ _ c.number-tag.ensures.is _ c.no_meaning-q.ensures (above-two _ r.0.0.1 r.0.1 r.1);
+          ∙ tag-wrong (monthday_form _ a.edition) _ 2 2 3 (omega arith) _ _ c.number-tag.ensures.is _ c.no_meaning-q.ensures (omega arith);
       near = omega (arith, unmeant-low _ _ _ c.no_meaning-q.ensures);
     }

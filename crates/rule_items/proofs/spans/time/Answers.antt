@@ -16,6 +16,6 @@ unfolding time_at
 returns-in_default c =
     record {
       is = c.variable_time.ensures.is
-          ∙ tag-right (time_form _) _ 1 1 1 (omega arith) _ _ c.number-tag.ensures.is 1 (one_left _ c.number-tag.ensures.top c.in_default.rest.1) (omega arith);
+          ∙ tag-right (time_form _) _ 1 1 1 (omega arith) _ _ c.number-tag.ensures.is 1 (one_left _ c.number-tag.ensures.top (omega arith)) (omega arith);
       near = search rules;
     }

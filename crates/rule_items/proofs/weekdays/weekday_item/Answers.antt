@@ -16,6 +16,6 @@ unfolding weekday_item_at
 returns-in_default c =
     record {
       is = c.holiday.ensures.is
-          ∙ tag-right (weekday_form _) _ 1 1 1 (omega arith) _ _ c.number-tag.ensures.is 1 (one_left _ c.number-tag.ensures.top c.in_default.rest.1) (omega arith);
+          ∙ tag-right (weekday_form _) _ 1 1 1 (omega arith) _ _ c.number-tag.ensures.is 1 (one_left _ c.number-tag.ensures.top (omega arith)) (omega arith);
       near = search rules;
     }

@@ -1,0 +1,18 @@
+-- The loop's invariant: what was set so far is the list of the first i items, and the next begins at p.
+use Prim.Native.Nat.{◌<◌, ◌≤◌, ◌-◌, ◌+◌, ◌*◌, ◌^◌}
+use mathlib.Core.Path.{◌≡◌, ap}
+use native.Mathlib.Omega.{arith}
+use borrow.Author.Rules.{rules}
+use Rattle.bits.specs.Place.{bit_of}
+use Rattle.bits.specs.declared.Place.TheVariants.{At}
+use Rattle.rule_words.proofs.WordLaws.{year-found}
+use Rattle.rule_lists.specs.RuleAt.{years_at}
+use Rattle.rule_lists.proofs.ListLaws.{listed-step, listed-none, begun-at, begun-none}
+use Rattle.rule_lists.proofs.ahead.years.Given as goal
+
+abbrev pub invariant-loop-i : goal.invariant-loop-i
+invariant-loop-i l =
+    (l.i ≤ l.count) × (record { item = l.items; place = At l.p } ≡ years_at l.image (At l.at) l.i) × (l.p ≤ l.at + 42 * l.i) × (l.at < 2 ^ 25)
+
+abbrev pub decreases-loop-i : goal.decreases-loop-i
+decreases-loop-i l = l.count - l.i

@@ -1,0 +1,19 @@
+-- The loop's invariant: what was set so far is the list of the first i items, if what was begun is the list of the first i₀.
+use Prim.Native.Nat.{◌<◌, ◌≤◌, ◌-◌, ◌+◌, ◌*◌, ◌^◌}
+use mathlib.Core.Path.{◌≡◌}
+use native.Mathlib.Omega.{arith}
+use borrow.Author.Rules.{rules}
+use Rattle.bits.specs.Place.{bit_of}
+use Rattle.bits.specs.declared.Place.{Place}
+use Rattle.rule_lists.specs.RuleAt.{weekdays_at}
+use Rattle.rule_lists.proofs.ListLaws.{listed-step}
+use Rattle.rule_lists.proofs.lists.weekday_items.Given as goal
+
+abbrev pub invariant-loop-i : goal.invariant-loop-i
+invariant-loop-i l =
+    (l.i ≤ l.count) × (l.initial.i ≤ l.i)
+    × ((q : Place) → record { item = l.initial.items; place = l.initial.p } ≡ weekdays_at l.image q l.initial.i → record { item = l.items; place = l.p } ≡ weekdays_at l.image q l.i)
+    × (bit_of l.p + 27 * l.initial.i ≤ bit_of l.initial.p + 27 * l.i) × (bit_of l.initial.p < 2 ^ 26)
+
+abbrev pub decreases-loop-i : goal.decreases-loop-i
+decreases-loop-i l = l.count - l.i

@@ -1,0 +1,11 @@
+-- What is kept so far and what is left to look at make the whole.
+use Rattle.schedule.proofs.Dropping.{Dropping, drop-begin, drop-skip, drop-keep, drop-end}
+use Prim.Native.Nat.{◌-◌}
+use borrow.Author.Rules.{rules}
+use Rattle.schedule.proofs.drop_in.Given as goal
+
+abbrev pub invariant-loop-i : goal.invariant-loop-i
+invariant-loop-i l = Dropping l.initial.room l.n l.room l.m l.i
+
+abbrev pub decreases-loop-i : goal.decreases-loop-i
+decreases-loop-i l = l.n - l.i

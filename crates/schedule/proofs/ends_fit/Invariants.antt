@@ -1,0 +1,14 @@
+-- The test of all is the test of those left.
+use Rattle.schedule.proofs.Building.{Ends, ends_on, ends-stop, ends-all}
+use Prim.Native.Nat.{◌-◌}
+use lib.ListN.{length}
+use mathlib.Core.Path.{refl}
+use borrow.Author.Rules.{rules}
+use native.Mathlib.Omega.{arith}
+use Rattle.schedule.proofs.ends_fit.Given as goal
+
+abbrev pub invariant-loop-i : goal.invariant-loop-i
+invariant-loop-i l = Ends l.given l.i
+
+abbrev pub decreases-loop-i : goal.decreases-loop-i
+decreases-loop-i l = length l.given - l.i
