@@ -14,6 +14,6 @@ returns c =
     let n = c.counts-c.ensures in
     let h = c.head-h.ensures in
     record {
-      is = rw c.rule_of-item.ensures (rule-made _ _ _ _ _ _ _ _ _ _ h.is n.0.is e1.is e2.is e3.is e4.is e5.is);
-      near = omega (arith, h.near, n.0.near, n.1.ys, n.1.ms, n.1.ws, n.1.ds, n.1.ts, e1.near, e2.near, e3.near, e4.near, e5.near);
+      is = rw c.rule_of-item.ensures (rule-made _ _ _ _ _ _ _ _ _ _ h.is n.found.is e1.is e2.is e3.is e4.is e5.is);
+      near = omega (arith, h.near, n.found.near, n.few.ys, n.few.ms, n.few.ws, n.few.ds, n.few.ts, e1.near, e2.near, e3.near, e4.near, e5.near);
     }

@@ -1,0 +1,15 @@
+-- `event_minutes` meets its contract: the arms are the row's four places, and a row has no fifth.
+use Rattle.time_filter.proofs.Rows.{no-fifth}
+use Rattle.time_filter.proofs.event_minutes.Goals as goal
+
+pub returns-in-0 : goal.returns-in-0
+returns-in-0 c = rw c.in-0.is
+
+pub returns-in-1 : goal.returns-in-1
+returns-in-1 c = rw c.in-1.is
+
+pub returns-in-2 : goal.returns-in-2
+returns-in-2 c = rw c.in-2.is
+
+pub returns-in-3 : goal.returns-in-3
+returns-in-3 c = rw c.in-3.is

@@ -1,0 +1,12 @@
+-- `start_missing` meets its contract: its test is the definition's.
+use borrow.Author.Rules.{rules}
+use Rattle.time_filter.specs.Spans.{start_missing}
+use Rattle.time_filter.proofs.start_missing.Goals as goal
+
+pub returns-then-is_morning-summer : goal.returns-then-is_morning-summer
+unfolding start_missing
+returns-then-is_morning-summer c = rw (← c.is_morning.ensures, c.if-is_morning-summer.true)
+
+pub returns : goal.returns
+unfolding start_missing
+returns c = rw (← c.is_morning.ensures, c.if-is_morning-summer.false)
