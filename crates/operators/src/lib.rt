@@ -10,7 +10,7 @@ ghost use Rattle.operators.specs.Rooms.{turn_of, under, Ready, Turning, Turned};
 use rules::Operator;
 
 // A match and an evaluation, whose ranges are the first words of a room; without `present` there is none.
-#[derive(Drop)]
+#[derive(Clone, Copy)]
 pub struct Held {
     pub matched: bool,
     pub present: bool,

@@ -1,3 +1,2 @@
 // The starred examples of the rules: no code, one list and its theorem.
 #![tactic(auto)]
-
