@@ -117,7 +117,7 @@ pub struct Rule {
     pub spans: [TimeSpan; 8],
 }
 
-#[derive(Drop)]
+#[derive(Clone, Copy)]
 pub struct Sheet {
     pub count: usize,
     pub rules: [Rule; 32],
