@@ -2,11 +2,13 @@
 // each in hexadecimal digits, with a space between; a line that begins with '#' is for its reader.
 #![tactic(auto)]
 
-ghost use Rattle.std.specs.Prelude.{◌≡◌, ◌+◌, ◌*◌, ◌<◌, ◌≤◌, true, false, length, slice_index};
+ghost use Rattle.std.specs.Prelude.{◌≡◌, ◌+◌, ◌*◌, ◌<◌, ◌≤◌, true, false, length, slice_index, IfOk, OnErr, IsOk};
 ghost use Rattle.replay.specs.Replay.{begun, counted, word_at, Stands, Lined, Within};
 
+use std::io::{self, Read};
+
 // How far a replay is: what of the block is not read yet, the vectors and differences so far; `more` is false at the end.
-#[derive(Drop)]
+#[derive(Clone, Copy)]
 pub struct Tally {
     pub at: usize,
     pub have: usize,
@@ -16,14 +18,14 @@ pub struct Tally {
 }
 
 // A line's length, and the replay behind it.
-#[derive(Drop)]
+#[derive(Clone, Copy)]
 pub struct Line {
     pub len: usize,
     pub tally: Tally,
 }
 
 // How long a vector's question and its answer are; `ok` is false where the line is none.
-#[derive(Drop)]
+#[derive(Clone, Copy)]
 pub struct Vector {
     pub ok: bool,
     pub question: usize,
@@ -31,12 +33,13 @@ pub struct Vector {
 }
 
 // Where some digits end in the line, and what they say ends in the room.
-#[derive(Drop)]
+#[derive(Clone, Copy)]
 struct Run {
     text: usize,
     room: usize,
 }
 
+#[tactic(auto, unfolding(crate::specs::Replay::begun))]
 pub fn start() -> Tally
     ensures { result ≡ begun }
 {
@@ -49,44 +52,67 @@ pub fn start() -> Tally
     }
 }
 
+// Reads until the room is full or the input ends, and gives how much was read.
+fn read_full<R: Read>(input: &mut R, room: &mut [u8]) -> io::Result<usize>
+    ensures { IfOk result (λ n. n ≤ length room.old) }
+{
+    let mut n = 0;
+    while n < room.len() {
+        let got = input.read(&mut room[n..])?;
+        if got == 0 {
+            return Ok(n);
+        }
+        n += got;
+    }
+    Ok(n)
+}
+
 // The next byte is at `at` of the block, which is filled anew where it is used up; at the input's end `more` is false.
-fn next_byte(block: &mut [u8], t: Tally) -> Tally
-    ensures { Stands (length block.old) t result }
+// Only a read can fail.
+fn next_byte<R: Read>(input: &mut R, block: &mut [u8], t: Tally) -> io::Result<Tally>
+    ensures ok { IfOk result (λ r. Stands (length block.old) t r) }
+    ensures there_already { t.at < t.have → t.have ≤ length block.old → IsOk result }
 {
     let mut r = t;
     if t.at < t.have {
         if t.have <= block.len() {
-            return r;
+            return Ok(r);
         }
     }
-    let got = io::read_full(0, &mut *block);
+    let got = read_full(input, &mut *block)?;
     r.at = 0;
     r.have = got;
     r.more = 0 < got;
-    r
+    Ok(r)
 }
 
-// Reads a line, without its end; what is longer than the room is cut there.
-pub fn next_line(block: &mut [u8], t: Tally, line: &mut [u8]) -> Line
-    ensures { Lined (length line.old) t result }
+// Reads a line, without its end; what is longer than the room is cut there. Where a read fails, the line is lost.
+pub fn next_line<R: Read>(
+    input: &mut R,
+    block: &mut [u8],
+    t: Tally,
+    line: &mut [u8],
+) -> io::Result<Line>
+    ensures ok { IfOk result (λ r. Lined (length line.old) t r) }
+    ensures err { OnErr result (0 < length line.old) }
 {
     let mut tally = t;
     let mut n = 0;
     while n < line.len() {
-        tally = next_byte(&mut *block, tally);
+        tally = next_byte(input, &mut *block, tally)?;
         if tally.more {} else {
-            return Line { len: n, tally };
+            return Ok(Line { len: n, tally });
         }
         let at = tally.at;
         let b = block[at];
         tally.at = at + 1;
         if b == 10 {
-            return Line { len: n, tally };
+            return Ok(Line { len: n, tally });
         }
         line[n] = b;
         n += 1;
     }
-    Line { len: n, tally }
+    Ok(Line { len: n, tally })
 }
 
 // The value of a hexadecimal digit, 16 for any other byte.
@@ -151,30 +177,31 @@ pub fn vector_in(line: &[u8], question: &mut [u8], answer: &mut [u8]) -> Vector
     }
 }
 
-// One vector more; where its answer is another than the due one, its number is written.
-pub fn judged(t: Tally, same: bool) -> Tally
-    ensures { result ≡ counted t same }
+// One vector more; where its answer is another than the due one, its number is written, and that alone can fail.
+#[tactic(auto, unfolding(crate::specs::Replay::counted))]
+pub fn judged(rt: &impl Print, t: Tally, same: bool) -> io::Result<Tally>
+    ensures ok { IfOk result (λ r. r ≡ counted t same) }
+    ensures err { OnErr result (same ≡ false) }
 {
     let vectors = std::num::wrapping_add_u32(t.vectors, 1);
     if same {
-        return Tally {
+        return Ok(Tally {
             at: t.at,
             have: t.have,
             vectors,
             differences: t.differences,
             more: t.more,
-        };
+        });
     }
-    io::write_all(1, b"differs ");
-    io::print_decimal(1, t.vectors as u64);
-    io::write_all(1, b"\n");
-    Tally {
+    let number = t.vectors;
+    println!(rt; "differs {number}")?;
+    Ok(Tally {
         at: t.at,
         have: t.have,
         vectors,
         differences: std::num::wrapping_add_u32(t.differences, 1),
         more: t.more,
-    }
+    })
 }
 
 fn byte_at(bytes: &[u8], at: usize) -> u32
@@ -187,6 +214,7 @@ fn byte_at(bytes: &[u8], at: usize) -> u32
 }
 
 // The u32 at a place, most significant byte first; bytes past the end are 0.
+#[tactic(auto, unfolding(crate::specs::Replay::word_at))]
 pub fn word(bytes: &[u8], at: usize) -> u32
     ensures { result ≡ word_at bytes.now at }
 {
@@ -201,13 +229,11 @@ pub fn word(bytes: &[u8], at: usize) -> u32
 }
 
 // Writes the count of vectors and of differences, and gives back the second.
-pub fn report(t: Tally) -> u32
-    ensures { result ≡ t.differences }
+pub fn report(rt: &impl Print, t: Tally) -> io::Result<u32>
+    ensures { IfOk result (λ n. n ≡ t.differences) }
 {
-    io::write_all(1, b"vectors ");
-    io::print_decimal(1, t.vectors as u64);
-    io::write_all(1, b" differences ");
-    io::print_decimal(1, t.differences as u64);
-    io::write_all(1, b"\n");
-    t.differences
+    let vectors = t.vectors;
+    let differences = t.differences;
+    println!(rt; "vectors {vectors} differences {differences}")?;
+    Ok(differences)
 }

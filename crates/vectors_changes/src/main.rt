@@ -7,6 +7,7 @@ ghost use Rattle.framing.specs.Reading.{Within};
 use framing::Frame;
 use next_change::Change;
 use replay::Tally;
+use std::io::{self, Read};
 
 fn two(due: &[u8], at: usize, a: u32, b: u32) -> bool {
     if replay::word(due, at) == a {
@@ -77,9 +78,9 @@ fn says(asked: &[u8], due: &[u8]) -> bool {
     false
 }
 
-fn step(block: &mut [u8], t: Tally) -> Tally {
+fn step<R: Read>(rt: &impl Print, input: &mut R, block: &mut [u8], t: Tally) -> io::Result<Tally> {
     let mut line = [0u8; 16384];
-    let read = replay::next_line(&mut *block, t, &mut line);
+    let read = replay::next_line(input, &mut *block, t, &mut line)?;
     let n = read.len;
     let mut question = [0u8; 8192];
     let mut due = [0u8; 64];
@@ -88,23 +89,25 @@ fn step(block: &mut [u8], t: Tally) -> Tally {
     if v.ok {
         let q = v.question;
         let d = v.answer;
-        return replay::judged(after, says(&question[..q], &due[..d]));
+        return replay::judged(rt, after, says(&question[..q], &due[..d]));
     }
-    after
+    Ok(after)
 }
 
-fn run(block: &mut [u8]) -> Tally {
+fn run(rt: &(impl Input + Print), block: &mut [u8]) -> io::Result<Tally> {
+    let mut input = rt.reader();
     let mut t = replay::start();
     let mut turns: u32 = 1000000;
     while 0 < turns && t.more {
-        t = step(&mut *block, t);
+        t = step(rt, &mut input, &mut *block, t)?;
         turns -= 1;
     }
-    t
+    Ok(t)
 }
 
-fn main() {
-    let mut block = io::large_buffer();
-    let t = run(&mut block);
-    replay::report(t);
+fn main(rt: HostRuntime) -> io::Result<()> {
+    let mut block = [0u8; 65536];
+    let t = run(&rt, &mut block)?;
+    replay::report(&rt, t)?;
+    Ok(())
 }

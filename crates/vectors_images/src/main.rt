@@ -3,6 +3,7 @@
 
 use replay::Tally;
 use rule_image::Verdict;
+use std::io::{self, Read};
 
 // A refusal number, 0 for none, and the count of rules or the place.
 fn two(due: &[u8], number: u32, value: usize) -> bool {
@@ -20,9 +21,9 @@ fn says(image: &[u8], due: &[u8]) -> bool {
     }
 }
 
-fn step(block: &mut [u8], t: Tally) -> Tally {
+fn step<R: Read>(rt: &impl Print, input: &mut R, block: &mut [u8], t: Tally) -> io::Result<Tally> {
     let mut line = [0u8; 16384];
-    let read = replay::next_line(&mut *block, t, &mut line);
+    let read = replay::next_line(input, &mut *block, t, &mut line)?;
     let n = read.len;
     let mut question = [0u8; 8192];
     let mut due = [0u8; 16];
@@ -31,23 +32,25 @@ fn step(block: &mut [u8], t: Tally) -> Tally {
     if v.ok {
         let q = v.question;
         let d = v.answer;
-        return replay::judged(after, says(&question[..q], &due[..d]));
+        return replay::judged(rt, after, says(&question[..q], &due[..d]));
     }
-    after
+    Ok(after)
 }
 
-fn run(block: &mut [u8]) -> Tally {
+fn run(rt: &(impl Input + Print), block: &mut [u8]) -> io::Result<Tally> {
+    let mut input = rt.reader();
     let mut t = replay::start();
     let mut turns: u32 = 1000000;
     while 0 < turns && t.more {
-        t = step(&mut *block, t);
+        t = step(rt, &mut input, &mut *block, t)?;
         turns -= 1;
     }
-    t
+    Ok(t)
 }
 
-fn main() {
-    let mut block = io::large_buffer();
-    let t = run(&mut block);
-    replay::report(t);
+fn main(rt: HostRuntime) -> io::Result<()> {
+    let mut block = [0u8; 65536];
+    let t = run(&rt, &mut block)?;
+    replay::report(&rt, t)?;
+    Ok(())
 }

@@ -6,6 +6,7 @@ ghost use Rattle.std.specs.Prelude.{◌+◌, ◌≤◌, length};
 use listing::Written;
 use replay::Tally;
 use schedule::{Answer, Schedule};
+use std::io::{self, Read};
 
 // What stood in a lent cell before: no listing has such a word.
 const BEFORE: u32 = 4294967295;
@@ -147,9 +148,9 @@ fn says(question: &[u8], due: &[u8]) -> bool {
     }
 }
 
-fn step(block: &mut [u8], t: Tally) -> Tally {
+fn step<R: Read>(rt: &impl Print, input: &mut R, block: &mut [u8], t: Tally) -> io::Result<Tally> {
     let mut line = [0u8; 4096];
-    let read = replay::next_line(&mut *block, t, &mut line);
+    let read = replay::next_line(input, &mut *block, t, &mut line)?;
     let n = read.len;
     let mut question = [0u8; 2048];
     let mut due = [0u8; 1024];
@@ -158,23 +159,25 @@ fn step(block: &mut [u8], t: Tally) -> Tally {
     if v.ok {
         let q = v.question;
         let d = v.answer;
-        return replay::judged(after, says(&question[..q], &due[..d]));
+        return replay::judged(rt, after, says(&question[..q], &due[..d]));
     }
-    after
+    Ok(after)
 }
 
-fn run(block: &mut [u8]) -> Tally {
+fn run(rt: &(impl Input + Print), block: &mut [u8]) -> io::Result<Tally> {
+    let mut input = rt.reader();
     let mut t = replay::start();
     let mut turns: u32 = 1000000;
     while 0 < turns && t.more {
-        t = step(&mut *block, t);
+        t = step(rt, &mut input, &mut *block, t)?;
         turns -= 1;
     }
-    t
+    Ok(t)
 }
 
-fn main() {
-    let mut block = io::large_buffer();
-    let t = run(&mut block);
-    replay::report(t);
+fn main(rt: HostRuntime) -> io::Result<()> {
+    let mut block = [0u8; 65536];
+    let t = run(&rt, &mut block)?;
+    replay::report(&rt, t)?;
+    Ok(())
 }
