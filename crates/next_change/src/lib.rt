@@ -20,7 +20,7 @@ use rules::Sheet;
 use time_filter::Events;
 
 // A refusal's number and place, 8 with its date; or the date and minute of the change and the days examined; year 0 where there is none.
-#[derive(Drop)]
+#[derive(Clone, Copy)]
 pub struct Change {
     pub refusal: u8,
     pub place: usize,
