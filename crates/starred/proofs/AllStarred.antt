@@ -4,7 +4,7 @@ use mathlib.Core.Path.{◌≡◌, refl, ap}
 use mathlib.Core.List.{List, [], ◌∷◌}
 use Prim.Native.Nat.{ℕ, ◌+◌, ◌-◌, ◌≤◌}
 use lib.Dec.{lit≤}
-use Rattle.calendar.specs.Calendar.{leap, month_length, before_month, before_year, year_length, ordinal, day_number, weekday, iso_week}
+use Rattle.calendar.specs.Calendar.{leap, month_length, before_month, before_year, year_length, ordinal, day_number, weekday}
 use Rattle.calendar.specs.Parts.{Settled}
 use Rattle.calendar.proofs.Weeks.{week-is}
 use Rattle.easter.specs.Easter.{golden, sun, moon, epact, used_epact, full_moon, sunday_after, easter_number}

@@ -1,7 +1,6 @@
 -- The starred examples: what the definitions give, and what it must be, each as a list of numbers.
 use Rattle.std.specs.Prelude.{◌≡◌, List, [], ◌∷◌, map, ℕ, pos, negsuc}
 use Rattle.calendar.specs.Calendar.{day_number, iso_week}
-use Rattle.calendar.specs.declared.Date.{Date}
 use Rattle.easter.specs.Easter.{easter_number}
 use Rattle.days.specs.declared.Day.{Day}
 use Rattle.rules.specs.declared.Date.TheVariants as date

@@ -1,6 +1,5 @@
 -- A window, moved up by the bits in front of the place.
 use Rattle.bits.proofs.AheadLaws.{moved_up}
-use borrow.Author.Rules.{rules}
 use Rattle.bits.proofs.ahead.Goals as goal
 
 pub returns : goal.returns

@@ -1,6 +1,5 @@
 -- A window where eight bytes are left, else the field's own bytes.
 use Rattle.bits.proofs.BitsLaws.{from-window}
-use borrow.Author.Rules.{rules}
 use Rattle.bits.proofs.bits_at.Goals as goal
 
 pub returns-then-first-image : goal.returns-then-first-image

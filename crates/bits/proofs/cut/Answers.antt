@@ -1,6 +1,5 @@
 -- A quotient and a remainder by powers of two.
 use Rattle.bits.proofs.BitsLaws.{one-pos, rest_lt, rest-is}
-use borrow.Author.Rules.{rules}
 use Rattle.bits.proofs.cut.Goals as goal
 
 pub nonzero_rem-result : goal.nonzero_rem-result

@@ -4,7 +4,6 @@ use mir.Syntax.{w16}
 use mir.Facts.{to_z_pos}
 use Rattle.bits.proofs.SignLaws.{over, less-fits, less-fits16, less-signed}
 use native.Mathlib.Omega.{arith}
-use borrow.Author.Rules.{rules}
 use Rattle.bits.proofs.extend.Goals as goal
 
 pub overflow_sub-result : goal.overflow_sub-result

@@ -2,7 +2,6 @@
 use Rattle.bits.proofs.BitsLaws.{four_is}
 use Prim.Native.Nat.{◌+◌}
 use native.Mathlib.Omega.{arith}
-use borrow.Author.Rules.{rules}
 use Rattle.bits.proofs.four_bytes.Goals as goal
 
 pub overflow_cast-a : goal.overflow_cast-a

@@ -1,10 +1,8 @@
-use Prim.Native.Nat.{◌<◌, ◌≤◌, ◌+◌, ◌-◌, ◌*◌, ◌/◌, ◌^◌}
+use Prim.Native.Nat.{◌<◌, ◌+◌, ◌-◌, ◌*◌, ◌/◌, ◌^◌}
 use mathlib.Core.Path.{◌≡◌, refl}
 use lib.ListN.{get_or}
-use Rattle.bits.specs.Bits.{bits}
 use Rattle.bits.proofs.BitsLaws.{bits-lt, bits-under, byte_more, from_bytes, one-pos, rest_lt}
 use native.Mathlib.Omega.{arith}
-use borrow.Author.Rules.{rules}
 use Rattle.bits.proofs.last_bits.Goals as goal
 use Rattle.bits.proofs.last_bits.Goals.{In-loop-i}
 

@@ -3,7 +3,6 @@ use mathlib.Core.Path.{ap, sym, ◌∙◌}
 use Rattle.bits.specs.declared.Field.TheVariants.{Value}
 use Rattle.bits.proofs.BitsLaws.{past, value}
 use native.Mathlib.Omega.{arith}
-use borrow.Author.Rules.{rules}
 use Rattle.bits.proofs.last_field.Goals as goal
 
 pub returns-then-at-width : goal.returns-then-at-width

@@ -1,6 +1,5 @@
 -- The distance from 0 on each side of the half.
 use Rattle.bits.proofs.SignLaws.{size-over, size-under}
-use borrow.Author.Rules.{rules}
 use Rattle.bits.proofs.magnitude.Goals as goal
 
 pub returns-then-v-full : goal.returns-then-v-full

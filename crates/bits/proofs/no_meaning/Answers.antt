@@ -1,6 +1,5 @@
 -- By the places before and behind the code.
 use Rattle.bits.proofs.ReadLaws.{unmeant-at, unmeant-kept, unmeant-in}
-use borrow.Author.Rules.{rules}
 use Rattle.bits.proofs.no_meaning.Goals as goal
 
 pub returns-in-At-before : goal.returns-in-At-before

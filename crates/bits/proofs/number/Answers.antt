@@ -3,7 +3,6 @@ use mathlib.Core.Path.{ap}
 use Rattle.bits.specs.Place.{bit_of}
 use Rattle.bits.proofs.ReadLaws.{number-at, number-kept}
 use native.Mathlib.Omega.{arith}
-use borrow.Author.Rules.{rules}
 use Rattle.bits.proofs.number.Goals as goal
 
 pub number_from-requires : goal.number_from-requires

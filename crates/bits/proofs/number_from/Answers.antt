@@ -1,7 +1,6 @@
 -- By the field's cases and the two tests.
 use mathlib.Core.Path.{sym, ◌∙◌}
 use Rattle.bits.proofs.ReadLaws.{number_past, number-wrong, number-right, too-low, too-high}
-use borrow.Author.Rules.{rules}
 use Rattle.bits.proofs.number_from.Goals as goal
 
 pub returns-in_default : goal.returns-in_default

@@ -3,7 +3,6 @@ use mathlib.Core.Path.{ap, sym, ◌∙◌}
 use Rattle.bits.specs.declared.Field.TheVariants.{Value}
 use Rattle.bits.proofs.BitsLaws.{from-window, value}
 use native.Mathlib.Omega.{arith}
-use borrow.Author.Rules.{rules}
 use Rattle.bits.proofs.read.Goals as goal
 
 pub returns-then-first-image : goal.returns-then-first-image

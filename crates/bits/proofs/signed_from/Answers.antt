@@ -1,7 +1,6 @@
 -- By the field's cases and the test of its distance from 0.
 use mathlib.Core.Path.{sym, ◌∙◌}
 use Rattle.bits.proofs.ReadLaws.{signed-past, signed-far, signed-near, full-lt, full-small}
-use borrow.Author.Rules.{rules}
 use Rattle.bits.proofs.signed_from.Goals as goal
 
 pub returns-in_default : goal.returns-in_default

@@ -2,7 +2,6 @@
 use Rattle.bits.proofs.BitsLaws.{bits-lt, eight_is}
 use Prim.Native.Nat.{◌*◌, ◌+◌}
 use native.Mathlib.Omega.{arith}
-use borrow.Author.Rules.{rules}
 use Rattle.bits.proofs.window.Goals as goal
 
 pub overflow_mul-result : goal.overflow_mul-result

@@ -1,5 +1,4 @@
 -- `calendar::before_month` meets its contract: each table holds the running sums of the month lengths, by one test over it.
-use borrow.Author.Rules.{rules}
 use mathlib.Core.Bool.{true, false}
 use mathlib.Core.List.{List, [], ◌∷◌}
 use mathlib.Core.Path.{◌≡◌}

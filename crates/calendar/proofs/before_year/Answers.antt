@@ -1,6 +1,5 @@
 -- `calendar::before_year` meets its contract: the sum of the years' lengths, directly.
 use Rattle.calendar.proofs.Direct.{by-centuries}
-use borrow.Author.Rules.{rules}
 use Rattle.calendar.proofs.before_year.Goals as goal
 
 pub returns : goal.returns

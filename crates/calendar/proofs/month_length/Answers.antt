@@ -1,5 +1,4 @@
 -- `calendar::month_length` meets its contract: each table is the definition's list.
-use borrow.Author.Rules.{rules}
 use mathlib.Core.Bool.{true, false}
 use mathlib.Core.List.{[], ◌∷◌}
 use mathlib.Core.Path.{◌≡◌, refl}

@@ -1,7 +1,6 @@
 -- `calendar::month_of` meets its contract: the month counted by 31 days is the day's own, or the one before it, where the next has begun.
 use Prim.Native.Nat.{◌-◌, ◌/◌}
 use native.Mathlib.Omega.{arith}
-use borrow.Author.Rules.{rules}
 use Rattle.calendar.proofs.Days.{year-high, in-next-month, in-same-month}
 use Rattle.calendar.proofs.month_of.Goals as goal
 

@@ -1,7 +1,6 @@
 -- `calendar::settle` meets its contract: the days since the start of the year's cycle are whole cycles and a day of one.
 use Prim.Native.Nat.{◌+◌, ◌-◌, ◌%◌}
 use native.Mathlib.Omega.{arith}
-use borrow.Author.Rules.{rules}
 use Rattle.calendar.proofs.Days.{years-high}
 use Rattle.calendar.proofs.Direct.{counted-on}
 use Rattle.calendar.proofs.settle.Goals as goal

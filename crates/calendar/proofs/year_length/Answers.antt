@@ -1,7 +1,6 @@
 -- `calendar::year_length` meets its contract: each arm is one case of the definition.
 use mathlib.Core.Path.{sym, ◌∙◌}
 use Rattle.calendar.specs.Calendar.{year_length}
-use borrow.Author.Rules.{rules}
 use Rattle.calendar.proofs.year_length.Goals as goal
 
 pub returns-then-is_leap : goal.returns-then-is_leap

@@ -1,5 +1,4 @@
 -- Tomorrow lies one day less than none before the day; in the first two years it is the day of the next number's date.
-use borrow.Author.Rules.{rules}
 use native.Mathlib.Omega.{arith}
 use Rattle.changes.proofs.Tomorrow.{date-fits, day-fits}
 use Rattle.changes.proofs.day_after.Goals as goal

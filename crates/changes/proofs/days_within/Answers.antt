@@ -1,5 +1,4 @@
 -- The lower of the days asked for and the days left.
-use borrow.Author.Rules.{rules}
 use native.Mathlib.Omega.{arith}
 use Rattle.changes.proofs.Count.{within-is}
 use Rattle.changes.proofs.days_within.Goals as goal

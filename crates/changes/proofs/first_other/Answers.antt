@@ -1,7 +1,5 @@
-use Prim.Native.Nat.{◌+◌, ◌-◌}
-use borrow.Author.Rules.{rules}
 use native.Mathlib.Omega.{arith}
-use Rattle.changes.proofs.Walking.{Walks, walk-begin, lies, walk-hole, walk-hole-stop, walk-past, walk-range, walk-range-stop, walk_end, walk-end-stop}
+use Rattle.changes.proofs.Walking.{walk-begin, lies, walk-hole, walk-hole-stop, walk-past, walk-range, walk-range-stop, walk_end, walk-end-stop}
 use Rattle.changes.proofs.first_other.Goals as goal
 
 pub loop-i-init : goal.loop-i-init

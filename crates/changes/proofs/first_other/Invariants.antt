@@ -1,8 +1,6 @@
 -- What is left to be walked gives the same minute as the whole: each turn passes a hole or a range.
 use Prim.Native.Nat.{◌+◌, ◌-◌}
-use borrow.Author.Rules.{rules}
-use native.Mathlib.Omega.{arith}
-use Rattle.changes.proofs.Walking.{Walks, walk-begin, lies, walk-hole, walk-hole-stop, walk-past, walk-range, walk-range-stop, walk_end, walk-end-stop}
+use Rattle.changes.proofs.Walking.{Walks}
 use Rattle.changes.proofs.first_other.Given as goal
 
 abbrev pub invariant-loop-i : goal.invariant-loop-i

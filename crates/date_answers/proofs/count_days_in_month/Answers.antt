@@ -1,7 +1,6 @@
 -- `date_answers::count_days_in_month` meets its contract: a month that exists has its length.
 use mathlib.Core.Path.{◌≡◌, sym, ◌∙◌}
 use mathlib.Core.Bool.{true}
-use borrow.Author.Rules.{rules}
 use native.Mathlib.Omega.{arith}
 use Rattle.dates.specs.Exists.{is_month}
 use Rattle.date_answers.specs.Answers.{length_answer}

@@ -1,7 +1,6 @@
 -- `date_answers::easter` meets its contract: the formula serves the years 1 to 12000.
 use mathlib.Core.Path.{◌≡◌, sym, ◌∙◌}
 use mathlib.Core.Bool.{true}
-use borrow.Author.Rules.{rules}
 use Rattle.dates.specs.Exists.{in_years}
 use Rattle.date_answers.specs.Answers.{easter_answer}
 use Rattle.dates.proofs.There.{year-there}

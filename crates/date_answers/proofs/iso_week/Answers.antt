@@ -1,7 +1,6 @@
 -- `date_answers::iso_week` meets its contract: a date that exists has a day.
 use mathlib.Core.Path.{◌≡◌, ap, sym, ◌∙◌}
 use mathlib.Core.Bool.{true}
-use borrow.Author.Rules.{rules}
 use native.Mathlib.Omega.{arith}
 use Rattle.days.specs.DayOf.{day_of}
 use Rattle.days.specs.declared.Day.{Day}

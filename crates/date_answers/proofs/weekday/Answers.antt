@@ -1,7 +1,6 @@
 -- `date_answers::weekday` meets its contract: a date that exists has a number.
 use mathlib.Core.Path.{◌≡◌, sym, ◌∙◌}
 use mathlib.Core.Bool.{true}
-use borrow.Author.Rules.{rules}
 use native.Mathlib.Omega.{arith}
 use Rattle.dates.specs.Exists.{is_date}
 use Rattle.date_answers.specs.Answers.{weekday_answer}

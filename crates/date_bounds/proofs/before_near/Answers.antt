@@ -1,7 +1,6 @@
 -- Years next to each other differ by a length.
 use mathlib.Core.Path.{ap, sym, ◌∙◌}
 use native.Mathlib.Omega.{arith}
-use borrow.Author.Rules.{rules}
 use Rattle.calendar.specs.Calendar.{leap, before_year}
 use Rattle.calendar.proofs.Days.{year-suc, year-high, years-high}
 use Rattle.date_bounds.proofs.before_near.Goals as goal

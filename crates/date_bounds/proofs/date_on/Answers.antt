@@ -2,7 +2,6 @@
 use mathlib.Core.Path.{◌≡◌, ap, ◌∙◌}
 use Prim.Native.Nat.{◌≤◌}
 use native.Mathlib.Omega.{arith}
-use borrow.Author.Rules.{rules}
 use Rattle.date_bounds.specs.Bounds.{on_year, own_year, year_for, date_on}
 use Rattle.date_bounds.proofs.OnYear.{own-ok, year-within}
 use Rattle.date_bounds.proofs.date_on.Goals as goal
@@ -20,12 +19,11 @@ pub before_near-b-requires : goal.before_near-b-requires
 before_near-b-requires c = (c.requires.4, omega (arith, here (goal.at.before_near-b-requires c).After-year_for-y, range (goal.at.before_near-b-requires c).After-year_for-y))
 
 pub on_year-requires : goal.on_year-requires
-on_year-requires c =
-    (
-      c.requires.0,
-      c.requires.1,
-      record { is = c.before_near-b.ensures; low = omega (arith, here (goal.at.on_year-requires c).After-year_for-y, range (goal.at.on_year-requires c).After-year_for-y); high = omega (arith, here (goal.at.on_year-requires c).After-year_for-y, range (goal.at.on_year-requires c).After-year_for-y) },
-    )
+on_year-requires c = (
+  c.requires.0,
+  c.requires.1,
+  record { is = c.before_near-b.ensures; low = omega (arith, here (goal.at.on_year-requires c).After-year_for-y, range (goal.at.on_year-requires c).After-year_for-y); high = omega (arith, here (goal.at.on_year-requires c).After-year_for-y, range (goal.at.on_year-requires c).After-year_for-y) },
+)
 
 pub returns : goal.returns
 unfolding date_on

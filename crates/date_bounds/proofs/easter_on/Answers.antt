@@ -2,7 +2,6 @@
 use mathlib.Core.Path.{◌≡◌, ap, ◌∙◌}
 use Prim.Native.Nat.{◌≤◌}
 use native.Mathlib.Omega.{arith}
-use borrow.Author.Rules.{rules}
 use Rattle.calendar.specs.Calendar.{leap, before_month}
 use Rattle.calendar.proofs.Days.{months-high, years-high}
 use Rattle.date_bounds.proofs.OnYear.{easter-is, easter-month}

@@ -1,7 +1,6 @@
 -- The day stands in its month, or past it; the calls give the month.
 use Prim.Native.Nat.{◌+◌}
 use native.Mathlib.Omega.{arith}
-use borrow.Author.Rules.{rules}
 use Rattle.date_bounds.proofs.OnYear.{MonthAt, month-at, in-month, past-month}
 use Rattle.date_bounds.proofs.fixed_on.Goals as goal
 use Rattle.date_bounds.proofs.fixed_on.Goals.{After-before_month}

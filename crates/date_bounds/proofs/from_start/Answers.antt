@@ -2,7 +2,6 @@
 use mathlib.Core.Path.{ap, sym, ◌∙◌}
 use Prim.Native.Nat.{◌+◌}
 use native.Mathlib.Omega.{arith}
-use borrow.Author.Rules.{rules}
 use Rattle.calendar.proofs.Weeks.{weekday-low}
 use Rattle.date_bounds.specs.Bounds.{forward, kth}
 use Rattle.date_bounds.proofs.Nth.{none, start-hit, start-miss}

@@ -2,7 +2,6 @@
 use mathlib.Core.Path.{◌≡◌, ap, ◌∙◌}
 use Prim.Native.Nat.{◌≤◌}
 use native.Mathlib.Omega.{arith}
-use borrow.Author.Rules.{rules}
 use lib.IntN.{nat_abs}
 use Rattle.calendar.specs.Moved.{moved}
 use Rattle.calendar.proofs.Offsets.{moved-high, widens, widened}

@@ -2,7 +2,6 @@
 use mathlib.Core.Path.{◌∙◌}
 use Prim.Native.Nat.{◌+◌}
 use native.Mathlib.Omega.{arith}
-use borrow.Author.Rules.{rules}
 use Rattle.date_bounds.proofs.OnYear.{MonthAt, month-at, nth-again, nth-made}
 use Rattle.date_bounds.proofs.nth_on.Goals as goal
 use Rattle.date_bounds.proofs.nth_on.Goals.{After-before_month}

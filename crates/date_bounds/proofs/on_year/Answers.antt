@@ -1,6 +1,5 @@
 -- Each form is laid on the year by its own function.
 use mathlib.Core.Path.{◌∙◌}
-use borrow.Author.Rules.{rules}
 use Rattle.date_bounds.proofs.OnYear.{nth-again, on-fixed, on-weekday, on-easter}
 use Rattle.date_bounds.proofs.on_year.Goals as goal
 

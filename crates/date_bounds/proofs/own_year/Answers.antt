@@ -1,5 +1,4 @@
 -- Each form holds its year.
-use borrow.Author.Rules.{rules}
 use Rattle.date_bounds.specs.Bounds.{own_year}
 use Rattle.date_bounds.proofs.own_year.Goals as goal
 

@@ -1,5 +1,4 @@
 -- The certain image is asked first.
-use borrow.Author.Rules.{rules}
 use Rattle.date_filter.proofs.holiday_on.Goals as goal
 
 pub returns-then-in_image : goal.returns-then-in_image

@@ -1,10 +1,9 @@
 use mathlib.Core.Path.{◌≡◌}
-use Prim.Native.Nat.{◌-◌}
 use native.Mathlib.Omega.{arith}
 use borrow.Author.Rules.{rules}
 use lib.ListN.{length}
 use Rattle.date_filter.specs.Filter.{images, item_unknown, weekdays_unknown}
-use Rattle.date_lists.proofs.Loops.{Looked, length-mapped, looking, found, passed, ended}
+use Rattle.date_lists.proofs.Loops.{length-mapped, looking, found, passed, ended}
 use Rattle.date_filter.proofs.weekdays_unknown.Goals as goal
 
 pub loop-i-init : goal.loop-i-init

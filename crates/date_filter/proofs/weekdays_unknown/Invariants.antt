@@ -1,11 +1,7 @@
 -- The loop: an unknown item among those left is one among all.
-use mathlib.Core.Path.{◌≡◌}
 use Prim.Native.Nat.{◌-◌}
-use native.Mathlib.Omega.{arith}
-use borrow.Author.Rules.{rules}
-use lib.ListN.{length}
-use Rattle.date_filter.specs.Filter.{images, item_unknown, weekdays_unknown}
-use Rattle.date_lists.proofs.Loops.{Looked, length-mapped, looking, found, passed, ended}
+use Rattle.date_filter.specs.Filter.{images, item_unknown}
+use Rattle.date_lists.proofs.Loops.{Looked}
 use Rattle.date_filter.proofs.weekdays_unknown.Given as goal
 
 abbrev pub invariant-loop-i : goal.invariant-loop-i

@@ -1,5 +1,4 @@
 -- A flag's place is the table's, a power of two.
-use borrow.Author.Rules.{rules}
 use Rattle.date_items.specs.Items.{flag}
 use Rattle.date_items.proofs.Laws.{place, place-low}
 use Rattle.date_items.proofs.flag.Goals as goal

@@ -1,7 +1,6 @@
 -- The test of the months is the definition's.
 use borrow.Author.Tests.{lt-ltb, le-ltb}
 use Rattle.date_items.specs.Parts.{last_month}
-use borrow.Author.Rules.{rules}
 use Rattle.date_items.proofs.last_month.Goals as goal
 
 pub returns-then-end-start : goal.returns-then-end-start

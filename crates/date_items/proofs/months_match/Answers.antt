@@ -1,6 +1,5 @@
 -- The range is circular.
 use Rattle.date_items.specs.Items.{months_match}
-use borrow.Author.Rules.{rules}
 use Rattle.date_items.proofs.months_match.Goals as goal
 
 pub returns : goal.returns

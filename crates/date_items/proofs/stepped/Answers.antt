@@ -1,5 +1,4 @@
 -- Each return follows from the tests that led there.
-use borrow.Author.Rules.{rules}
 use borrow.Author.Tests.{le-leb, lt-leb}
 use Rattle.date_items.specs.Items.{stepped}
 use Rattle.date_items.proofs.stepped.Goals as goal

@@ -1,6 +1,5 @@
 -- The item asks its step of the ISO week.
 use Rattle.date_items.specs.Items.{week_matches}
-use borrow.Author.Rules.{rules}
 use Rattle.date_items.proofs.week_matches.Goals as goal
 
 pub returns : goal.returns

@@ -1,7 +1,6 @@
 -- The shifted day is a day, whose weekday and flags are asked.
 use mathlib.Core.Path.{◌≡◌, ap, ◌∙◌}
 use native.Mathlib.Omega.{arith}
-use borrow.Author.Rules.{rules}
 use Rattle.calendar.specs.Moved.{moved_back}
 use Rattle.calendar.proofs.Offsets.{moved_back-low, again}
 use Rattle.date_items.specs.Items.{shifted, weekday_on, weekday_matches}

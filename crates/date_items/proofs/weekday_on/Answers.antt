@@ -1,6 +1,5 @@
 -- A day lies in its month, so both indexes are below 5; each return follows from what the calls say.
 use native.Mathlib.Omega.{arith}
-use borrow.Author.Rules.{rules}
 use Rattle.date_items.specs.Items.{weekday_on}
 use Rattle.date_items.proofs.Laws.{in-month}
 use Rattle.date_items.proofs.weekday_on.Goals as goal

@@ -1,6 +1,5 @@
 -- The item asks its step of the year.
 use Rattle.date_items.specs.Items.{year_matches}
-use borrow.Author.Rules.{rules}
 use Rattle.date_items.proofs.year_matches.Goals as goal
 
 pub returns : goal.returns

@@ -1,7 +1,6 @@
 -- Months counted from the year 0 stand in the order of their days, so that the tests on them decide.
 use mathlib.Core.Path.{◌∙◌}
 use native.Mathlib.Omega.{arith}
-use borrow.Author.Rules.{rules}
 use Rattle.date_items.proofs.Laws.{day-valid, too-soon, in-last, off-last}
 use Rattle.date_items.proofs.year_months_match.Goals as goal
 

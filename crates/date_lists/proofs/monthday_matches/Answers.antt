@@ -1,7 +1,6 @@
 -- Each form asks its own function.
 use mathlib.Core.Path.{◌∙◌}
 use native.Mathlib.Omega.{arith}
-use borrow.Author.Rules.{rules}
 use Rattle.date_ranges.proofs.Laws.{its-year}
 use Rattle.date_lists.proofs.Forms.{on-months, on-year-months, on-dates}
 use Rattle.date_lists.proofs.monthday_matches.Goals as goal

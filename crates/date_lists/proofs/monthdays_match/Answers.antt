@@ -1,10 +1,9 @@
 use mathlib.Core.Path.{◌≡◌, ◌∙◌}
-use Prim.Native.Nat.{◌-◌}
 use native.Mathlib.Omega.{arith}
 use borrow.Author.Rules.{rules}
 use lib.ListN.{length}
 use Rattle.date_lists.specs.Lists.{monthdays_match, monthday_matches}
-use Rattle.date_lists.proofs.Loops.{Looked, length-mapped, no_items, looking, found, passed, ended, lists}
+use Rattle.date_lists.proofs.Loops.{length-mapped, no_items, looking, found, passed, ended, lists}
 use Rattle.date_lists.proofs.monthdays_match.Goals as goal
 
 pub returns-then-count-eq0 : goal.returns-then-count-eq0

@@ -1,11 +1,7 @@
 -- The loop: an item that matches among those left is one among all.
-use mathlib.Core.Path.{◌≡◌, ◌∙◌}
 use Prim.Native.Nat.{◌-◌}
-use native.Mathlib.Omega.{arith}
-use borrow.Author.Rules.{rules}
-use lib.ListN.{length}
-use Rattle.date_lists.specs.Lists.{monthdays_match, monthday_matches}
-use Rattle.date_lists.proofs.Loops.{Looked, length-mapped, no_items, looking, found, passed, ended, lists}
+use Rattle.date_lists.specs.Lists.{monthday_matches}
+use Rattle.date_lists.proofs.Loops.{Looked}
 use Rattle.date_lists.proofs.monthdays_match.Given as goal
 
 abbrev pub invariant-loop-i : goal.invariant-loop-i

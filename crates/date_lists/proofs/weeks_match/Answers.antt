@@ -1,11 +1,10 @@
 use mathlib.Core.Path.{◌≡◌, ◌∙◌}
-use Prim.Native.Nat.{◌-◌}
 use native.Mathlib.Omega.{arith}
 use borrow.Author.Rules.{rules}
 use lib.ListN.{length}
 use Rattle.date_items.specs.Items.{week_matches}
 use Rattle.date_lists.specs.Lists.{weeks_match}
-use Rattle.date_lists.proofs.Loops.{Looked, length-mapped, no_items, looking, found, passed, ended, lists}
+use Rattle.date_lists.proofs.Loops.{length-mapped, no_items, looking, found, passed, ended, lists}
 use Rattle.date_lists.proofs.weeks_match.Goals as goal
 
 pub returns-then-count-eq0 : goal.returns-then-count-eq0

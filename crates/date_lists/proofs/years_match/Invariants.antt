@@ -1,12 +1,7 @@
 -- The loop: an item that matches among those left is one among all.
-use mathlib.Core.Path.{◌≡◌, ◌∙◌}
 use Prim.Native.Nat.{◌-◌}
-use native.Mathlib.Omega.{arith}
-use borrow.Author.Rules.{rules}
-use lib.ListN.{length}
 use Rattle.date_items.specs.Items.{year_matches}
-use Rattle.date_lists.specs.Lists.{years_match}
-use Rattle.date_lists.proofs.Loops.{Looked, length-mapped, no_items, looking, found, passed, ended, lists}
+use Rattle.date_lists.proofs.Loops.{Looked}
 use Rattle.date_lists.proofs.years_match.Given as goal
 
 abbrev pub invariant-loop-i : goal.invariant-loop-i

@@ -1,5 +1,4 @@
 -- The bounds of three years.
-use borrow.Author.Rules.{rules}
 use Rattle.date_ranges.specs.Ranges.{around}
 use Rattle.date_ranges.proofs.around.Goals as goal
 

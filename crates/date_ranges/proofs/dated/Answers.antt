@@ -1,6 +1,5 @@
 -- The four bounds are those of the definition.
 use mathlib.Core.Path.{◌∙◌}
-use borrow.Author.Rules.{rules}
 use Rattle.date_ranges.specs.Ranges.{dated_match}
 use Rattle.date_ranges.proofs.Laws.{same-proper}
 use Rattle.date_ranges.proofs.dated.Goals as goal

@@ -1,7 +1,6 @@
 -- The days before the asked year are known from the day itself.
 use mathlib.Core.Path.{◌≡◌, sym, ◌∙◌, ap}
 use native.Mathlib.Omega.{arith}
-use borrow.Author.Rules.{rules}
 use Rattle.date_ranges.specs.Ranges.{dated_match, given_year}
 use Rattle.date_ranges.proofs.Laws.{ordinal-upto, its-year, its-before, in_reach, given_is, given-within, no-year, with-year}
 use Rattle.date_ranges.proofs.dates_match.Goals as goal

@@ -1,5 +1,4 @@
 -- Each return follows from the tests that led there.
-use borrow.Author.Rules.{rules}
 use Rattle.date_ranges.specs.Ranges.{first_proper}
 use Rattle.date_ranges.proofs.first_proper.Goals as goal
 

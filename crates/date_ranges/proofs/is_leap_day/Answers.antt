@@ -1,5 +1,4 @@
 -- The forms one by one.
-use borrow.Author.Rules.{rules}
 use Rattle.date_ranges.proofs.Laws.{day-asked, other-month, has-year, at-weekday, at-easter}
 use Rattle.date_ranges.proofs.is_leap_day.Goals as goal
 

@@ -2,7 +2,6 @@
 use mathlib.Core.Path.{ap, sym, ◌∙◌}
 use Prim.Native.Nat.{◌+◌, ◌≤◌}
 use native.Mathlib.Omega.{arith}
-use borrow.Author.Rules.{rules}
 use Rattle.calendar.proofs.Days.{years-low, years-high}
 use Rattle.calendar.specs.Moved.{moved}
 use Rattle.date_ranges.specs.Ranges.{inside}

@@ -3,7 +3,6 @@ use mathlib.Core.Path.{◌≡◌, sym, ◌∙◌}
 use mathlib.Core.Bool.{◌||◌}
 use Prim.Native.Nat.{◌+◌, ◌-◌}
 use native.Mathlib.Omega.{arith}
-use borrow.Author.Rules.{rules}
 use Rattle.date_ranges.specs.Ranges.{leap_day_in, leap_days_match}
 use Rattle.calendar.proofs.Offsets.{small-again}
 use Rattle.date_ranges.proofs.Laws.{kept, three-years, at_first, at_second, at-third}
@@ -28,12 +27,11 @@ pub before_near-sooner-requires : goal.before_near-sooner-requires
 before_near-sooner-requires c = (c.requires.2, omega arith)
 
 pub leap_day_in-requires : goal.leap_day_in-requires
-leap_day_in-requires c =
-    (
-      small-again c.args.a c.requires.0,
-      small-again c.args.b c.requires.1,
-      record { is = c.before_near-sooner.ensures; low = omega (arith, c.requires.3); high = omega (arith, c.requires.4) },
-    )
+leap_day_in-requires c = (
+  small-again c.args.a c.requires.0,
+  small-again c.args.b c.requires.1,
+  record { is = c.before_near-sooner.ensures; low = omega (arith, c.requires.3); high = omega (arith, c.requires.4) },
+)
 
 pub returns-then-leap_day_in : goal.returns-then-leap_day_in
 returns-then-leap_day_in c =
@@ -53,12 +51,11 @@ pub before_near-next-requires : goal.before_near-next-requires
 before_near-next-requires c = (c.requires.2, omega (arith, c.requires.4))
 
 pub leap_day_in-requires-3 : goal.leap_day_in-requires-3
-leap_day_in-requires-3 c =
-    (
-      small-again c.args.a c.requires.0,
-      small-again c.args.b c.requires.1,
-      record { is = c.before_near-next.ensures; low = omega (arith, c.requires.3); high = omega (arith, c.requires.4) },
-    )
+leap_day_in-requires-3 c = (
+  small-again c.args.a c.requires.0,
+  small-again c.args.b c.requires.1,
+  record { is = c.before_near-next.ensures; low = omega (arith, c.requires.3); high = omega (arith, c.requires.4) },
+)
 
 pub returns : goal.returns
 returns c =

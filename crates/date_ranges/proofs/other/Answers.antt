@@ -1,6 +1,5 @@
 -- The starts and ends are those of the definition.
 use mathlib.Core.Path.{◌∙◌}
-use borrow.Author.Rules.{rules}
 use Rattle.date_ranges.specs.Ranges.{other_match}
 use Rattle.date_ranges.proofs.Laws.{same-intervals}
 use Rattle.date_ranges.proofs.other.Goals as goal

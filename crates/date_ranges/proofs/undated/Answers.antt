@@ -1,7 +1,6 @@
 -- Which rule applies is told by the dates without their offsets.
 use mathlib.Core.Path.{sym, ◌∙◌}
 use native.Mathlib.Omega.{arith}
-use borrow.Author.Rules.{rules}
 use Rattle.calendar.proofs.Offsets.{small-again}
 use Rattle.date_ranges.proofs.Laws.{kept-all, both-leap, start-leap, not-leap}
 use Rattle.date_ranges.proofs.undated.Goals as goal

@@ -1,7 +1,6 @@
 -- `dates::day_at` meets its contract: a date that exists has a day.
 use mathlib.Core.Path.{◌≡◌, sym, ◌∙◌}
 use mathlib.Core.Bool.{true}
-use borrow.Author.Rules.{rules}
 use native.Mathlib.Omega.{arith}
 use Rattle.dates.specs.Exists.{is_date}
 use Rattle.dates.specs.Answers.{day_answer}

@@ -1,7 +1,6 @@
 -- `dates::exists` meets its contract: a month that exists has its length, and each arm is one part of the test.
 use mathlib.Core.Path.{◌≡◌, sym, ◌∙◌}
 use mathlib.Core.Bool.{true}
-use borrow.Author.Rules.{rules}
 use borrow.Author.Tests.{le-leb, lt-leb}
 use native.Mathlib.Omega.{arith}
 use Rattle.dates.specs.Exists.{is_month, is_date}

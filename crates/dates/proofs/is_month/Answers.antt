@@ -1,6 +1,5 @@
 -- `dates::is_month` meets its contract: each arm is one part of the test.
 use mathlib.Core.Path.{sym, ◌∙◌}
-use borrow.Author.Rules.{rules}
 use borrow.Author.Tests.{le-leb, lt-leb}
 use Rattle.dates.specs.Exists.{is_month}
 use Rattle.dates.proofs.is_month.Goals as goal

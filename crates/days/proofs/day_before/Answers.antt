@@ -1,5 +1,4 @@
 -- `days::day_before` meets its contract: a day moved back by 1 is the one before.
-use borrow.Author.Rules.{rules}
 use Rattle.days.proofs.day_before.Goals as goal
 
 pub returns : goal.returns

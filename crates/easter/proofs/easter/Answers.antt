@@ -1,6 +1,5 @@
 -- `easter::easter` meets its contract: what the code computes is the formula, which agrees with the reckoning on every year to 12000.
 use Rattle.easter.proofs.Formula.{h-of, l-of, m-of, result, room}
-use borrow.Author.Rules.{rules}
 use Rattle.easter.proofs.easter.Goals as goal
 
 pub overflow_sub-l-2 : goal.overflow_sub-l-2

@@ -1,6 +1,5 @@
 -- Each place is the one behind the part before it, as in the definition.
 use Rattle.framing.proofs.Places.{frame_made}
-use borrow.Author.Rules.{rules}
 use Rattle.framing.proofs.frame_of.Goals as goal
 
 pub returns : goal.returns

@@ -1,5 +1,4 @@
 -- The day's year is among the image's or the answer is false; the day's bit lies within the image.
-use borrow.Author.Rules.{rules}
 use native.Mathlib.Omega.{arith}
 use Rattle.holiday_image.proofs.Laws.{enough, sum_said, has-in-years, in-formed, contains-in, contains-out}
 use Rattle.holiday_image.proofs.contains.Goals as goal

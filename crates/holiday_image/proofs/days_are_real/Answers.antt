@@ -1,11 +1,8 @@
-use mathlib.Core.Bool.{true}
-use mathlib.Core.Path.{◌≡◌, refl, sym, ◌∙◌}
-use Prim.Native.Nat.{◌≤◌, ◌-◌}
-use borrow.Author.Rules.{rules}
+use mathlib.Core.Path.{refl, sym, ◌∙◌}
 use native.Mathlib.Omega.{arith}
 use Rattle.holiday_image.proofs.Laws.{kth-said, days-no, days-yes}
 use Rattle.holiday_image.proofs.Tests.{every_more}
-use Rattle.holiday_image.specs.Image.{every, real_kth}
+use Rattle.holiday_image.specs.Image.{every}
 use Rattle.holiday_image.proofs.days_are_real.Goals as goal
 
 pub years_of-years-requires : goal.years_of-years-requires

@@ -1,11 +1,7 @@
 -- Years 1 to k have been judged; the years of a sound head lie within the image.
 use mathlib.Core.Bool.{true}
-use mathlib.Core.Path.{◌≡◌, refl, sym, ◌∙◌}
+use mathlib.Core.Path.{◌≡◌}
 use Prim.Native.Nat.{◌≤◌, ◌-◌}
-use borrow.Author.Rules.{rules}
-use native.Mathlib.Omega.{arith}
-use Rattle.holiday_image.proofs.Laws.{kth-said, days-no, days-yes}
-use Rattle.holiday_image.proofs.Tests.{every_more}
 use Rattle.holiday_image.specs.Image.{every, real_kth}
 use Rattle.holiday_image.proofs.days_are_real.Given as goal
 

@@ -1,5 +1,4 @@
 -- What is left behind the last year is less than a byte, or nothing.
-use borrow.Author.Rules.{rules}
 use Rattle.holiday_image.proofs.Laws.{fill_none, fill-said}
 use Rattle.holiday_image.proofs.fill_is_zero.Goals as goal
 

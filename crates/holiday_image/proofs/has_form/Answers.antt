@@ -1,5 +1,4 @@
 -- The two tests in turn, on the head's numbers.
-use borrow.Author.Rules.{rules}
 use Rattle.holiday_image.proofs.Laws.{form-yes, form-no}
 use Rattle.holiday_image.proofs.has_form.Goals as goal
 

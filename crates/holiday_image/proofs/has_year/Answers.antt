@@ -1,5 +1,4 @@
 -- The two comparisons in turn.
-use borrow.Author.Rules.{rules}
 use Rattle.holiday_image.proofs.Laws.{has_in, has-out}
 use Rattle.holiday_image.proofs.has_year.Goals as goal
 

@@ -2,7 +2,6 @@
 use mathlib.Core.Path.{sym, ◌∙◌}
 use Prim.Native.Nat.{◌<◌}
 use lib.ListN.{length}
-use borrow.Author.Rules.{rules}
 use native.Mathlib.Omega.{arith}
 use Rattle.holiday_image.proofs.Laws.{short, formed, formless, unfilled, judged}
 use Rattle.holiday_image.proofs.is_sound.Goals as goal

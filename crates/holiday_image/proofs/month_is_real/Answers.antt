@@ -1,5 +1,4 @@
 -- A month of 31 days has no bit behind it; the others' bits make a number.
-use borrow.Author.Rules.{rules}
 use Rattle.holiday_image.proofs.Laws.{behind-none, behind-said}
 use Rattle.holiday_image.proofs.month_is_real.Goals as goal
 

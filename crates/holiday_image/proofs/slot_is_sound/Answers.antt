@@ -3,7 +3,6 @@ use mathlib.Core.Path.{ap, sym, ◌∙◌}
 use Prim.Native.Nat.{ℕ, ◌<◌}
 use lib.Dec.{eqb}
 use lib.ListN.{length}
-use borrow.Author.Rules.{rules}
 use native.Mathlib.Omega.{arith}
 use Rattle.holiday_image.proofs.Laws.{enough, slot-empty, slot-no, slot-yes}
 use Rattle.holiday_image.proofs.slot_is_sound.Goals as goal

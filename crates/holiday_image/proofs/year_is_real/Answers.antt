@@ -1,11 +1,8 @@
-use mathlib.Core.Bool.{true}
-use mathlib.Core.Path.{◌≡◌, refl, sym, ◌∙◌}
-use Prim.Native.Nat.{◌≤◌, ◌-◌}
+use mathlib.Core.Path.{refl, sym, ◌∙◌}
 use native.Mathlib.Omega.{arith}
-use borrow.Author.Rules.{rules}
 use Rattle.holiday_image.proofs.Laws.{month-said, year-no, year-yes}
 use Rattle.holiday_image.proofs.Tests.{every_more}
-use Rattle.holiday_image.specs.Image.{every, real_month}
+use Rattle.holiday_image.specs.Image.{every}
 use Rattle.holiday_image.proofs.year_is_real.Goals as goal
 
 pub loop-month-init : goal.loop-month-init

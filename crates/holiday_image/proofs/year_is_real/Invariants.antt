@@ -1,11 +1,7 @@
 -- Months 1 to `month` have been judged; each of the twelve lies within the image.
 use mathlib.Core.Bool.{true}
-use mathlib.Core.Path.{◌≡◌, refl, sym, ◌∙◌}
+use mathlib.Core.Path.{◌≡◌}
 use Prim.Native.Nat.{◌≤◌, ◌-◌}
-use native.Mathlib.Omega.{arith}
-use borrow.Author.Rules.{rules}
-use Rattle.holiday_image.proofs.Laws.{month-said, year-no, year-yes}
-use Rattle.holiday_image.proofs.Tests.{every_more}
 use Rattle.holiday_image.specs.Image.{every, real_month}
 use Rattle.holiday_image.proofs.year_is_real.Given as goal
 

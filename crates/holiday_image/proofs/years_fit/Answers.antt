@@ -1,5 +1,4 @@
 -- Each way out is one comparison that fails, and the last is the last one's result.
-use borrow.Author.Rules.{rules}
 use Rattle.holiday_image.proofs.Laws.{fit-early, fit-late, fit-many, fit-last}
 use Rattle.holiday_image.proofs.years_fit.Goals as goal
 

@@ -1,6 +1,5 @@
 -- The answer is the judgement of the image.
 use mathlib.Core.Path.{sym, ◌∙◌}
-use borrow.Author.Rules.{rules}
 use Rattle.holidays.proofs.CheckLaws.{check-yes, check-no}
 use Rattle.holidays.proofs.check.Goals as goal
 

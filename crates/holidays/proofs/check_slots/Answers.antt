@@ -1,6 +1,5 @@
 -- The slots are judged from the lowest, so the first that fails is named.
 use mathlib.Core.Path.{sym, ◌∙◌}
-use borrow.Author.Rules.{rules}
 use Rattle.holidays.proofs.CheckLaws.{slots-0, slots-1, slots-2, slots-3, slots-sound}
 use Rattle.holidays.proofs.check_slots.Goals as goal
 

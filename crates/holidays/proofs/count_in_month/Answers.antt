@@ -1,6 +1,5 @@
 -- A month exists exactly where its first day does.
 use mathlib.Core.Path.{sym, ◌∙◌}
-use borrow.Author.Rules.{rules}
 use Rattle.holidays.proofs.CountLaws.{first-day-tells, count-bad, count-nowhere, count-good}
 use Rattle.dates.proofs.There.{month-there}
 use Rattle.holidays.proofs.count_in_month.Goals as goal

@@ -1,6 +1,5 @@
 -- The mask of as many ones as days are left keeps just their bits.
 use native.Mathlib.Omega.{arith}
-use borrow.Author.Rules.{rules}
 use Rattle.holidays.proofs.BitLaws.{mask-pos, masked}
 use Rattle.holidays.proofs.days_left.Goals as goal
 

@@ -1,6 +1,5 @@
 -- 5 comes before 7, and then the search answers.
 use mathlib.Core.Path.{sym, ◌∙◌}
-use borrow.Author.Rules.{rules}
 use Rattle.holidays.proofs.WalkLaws.{valid-passed}
 use Rattle.holidays.proofs.SearchLaws.{first-bad, first-nowhere, first_good}
 use Rattle.dates.proofs.There.{date-there}

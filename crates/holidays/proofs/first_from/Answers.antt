@@ -1,9 +1,6 @@
 use mathlib.Core.Path.{sym, ◌∙◌}
-use Prim.Native.Nat.{◌-◌}
 use native.Mathlib.Omega.{arith}
-use borrow.Author.Rules.{rules}
-use Rattle.holidays.proofs.WalkLaws.{upto-said, late-said, told, Here, begin, again, joined, passed-few, in-years, next-month, next-year, found, ended}
-use Rattle.holidays.proofs.DayLaws.{number}
+use Rattle.holidays.proofs.WalkLaws.{upto-said, late-said, told, begin, again, joined, passed-few, in-years, next-month, next-year, found, ended}
 use Rattle.holiday_image.proofs.Laws.{sum_said}
 use Rattle.holidays.proofs.first_from.Goals as goal
 

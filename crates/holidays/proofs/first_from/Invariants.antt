@@ -1,11 +1,7 @@
 -- What is to be found from where the walk stands is what was to be found from its start: over months within a year, then over years.
-use mathlib.Core.Path.{sym, ◌∙◌}
 use Prim.Native.Nat.{◌-◌}
-use native.Mathlib.Omega.{arith}
-use borrow.Author.Rules.{rules}
-use Rattle.holidays.proofs.WalkLaws.{upto-said, late-said, told, Here, begin, again, joined, passed-few, in-years, next-month, next-year, found, ended}
+use Rattle.holidays.proofs.WalkLaws.{Here}
 use Rattle.holidays.proofs.DayLaws.{number}
-use Rattle.holiday_image.proofs.Laws.{sum_said}
 use Rattle.holidays.proofs.first_from.Given as goal
 
 abbrev pub invariant-loop-years : goal.invariant-loop-years

@@ -1,6 +1,5 @@
-use Rattle.insertion.proofs.Moves.{Down, down-on, down-end}
+use Rattle.insertion.proofs.Moves.{down-on, down-end}
 use mathlib.Core.Path.{refl}
-use Prim.Native.Nat.{◌-◌}
 use borrow.Author.Rules.{rules}
 use native.Mathlib.Omega.{arith}
 use Rattle.insertion.proofs.down.Goals as goal

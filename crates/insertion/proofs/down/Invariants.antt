@@ -1,9 +1,6 @@
 -- Each word is read before a store can reach it, since stores stay below the reads.
-use Rattle.insertion.proofs.Moves.{Down, down-on, down-end}
-use mathlib.Core.Path.{refl}
+use Rattle.insertion.proofs.Moves.{Down}
 use Prim.Native.Nat.{◌-◌}
-use borrow.Author.Rules.{rules}
-use native.Mathlib.Omega.{arith}
 use Rattle.insertion.proofs.down.Given as goal
 
 abbrev pub invariant-loop-i : goal.invariant-loop-i

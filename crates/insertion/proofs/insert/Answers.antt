@@ -1,7 +1,6 @@
 -- The words behind are moved, then the new ones stored in the gap.
 use Rattle.insertion.proofs.Planning.{inserted}
 use mathlib.Core.Path.{refl}
-use borrow.Author.Rules.{rules}
 use Rattle.insertion.proofs.insert.Goals as goal
 
 pub returns : goal.returns

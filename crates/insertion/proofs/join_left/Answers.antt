@@ -1,4 +1,4 @@
-use Rattle.insertion.proofs.Joining.{Left, left-on, left-stop, left_end}
+use Rattle.insertion.proofs.Joining.{left-on, left-stop, left_end}
 use mathlib.Core.Path.{refl}
 use Prim.Native.Nat.{◌-◌}
 use borrow.Author.Rules.{rules}

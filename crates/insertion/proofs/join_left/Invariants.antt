@@ -1,9 +1,5 @@
 -- Joining with all on the left is joining what is joined so far with those left.
-use Rattle.insertion.proofs.Joining.{Left, left-on, left-stop, left_end}
-use mathlib.Core.Path.{refl}
-use Prim.Native.Nat.{◌-◌}
-use borrow.Author.Rules.{rules}
-use native.Mathlib.Omega.{arith}
+use Rattle.insertion.proofs.Joining.{Left}
 use Rattle.insertion.proofs.join_left.Given as goal
 
 abbrev pub invariant-loop-i : goal.invariant-loop-i

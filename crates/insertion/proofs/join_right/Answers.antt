@@ -1,6 +1,5 @@
-use Rattle.insertion.proofs.Joining.{Right, right-on, right-stop, right_end}
+use Rattle.insertion.proofs.Joining.{right-on, right-stop, right_end}
 use mathlib.Core.Path.{refl}
-use Prim.Native.Nat.{◌-◌}
 use borrow.Author.Rules.{rules}
 use native.Mathlib.Omega.{arith}
 use Rattle.insertion.proofs.join_right.Goals as goal

@@ -1,9 +1,6 @@
 -- The same to the right.
-use Rattle.insertion.proofs.Joining.{Right, right-on, right-stop, right_end}
-use mathlib.Core.Path.{refl}
+use Rattle.insertion.proofs.Joining.{Right}
 use Prim.Native.Nat.{◌-◌}
-use borrow.Author.Rules.{rules}
-use native.Mathlib.Omega.{arith}
 use Rattle.insertion.proofs.join_right.Given as goal
 
 abbrev pub invariant-loop-i : goal.invariant-loop-i

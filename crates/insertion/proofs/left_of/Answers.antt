@@ -1,6 +1,5 @@
 -- The range that reaches across the minute is cut, and joined or kept as a piece.
 use Rattle.insertion.proofs.Planning.{left-merged, left_cut, left-whole, left-none}
-use borrow.Author.Rules.{rules}
 use Rattle.insertion.proofs.left_of.Goals as goal
 
 pub returns-then-touches : goal.returns-then-touches

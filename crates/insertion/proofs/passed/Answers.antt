@@ -1,5 +1,4 @@
-use Rattle.insertion.proofs.Passing.{Pass, pass_on, pass-stop, pass-end}
-use Prim.Native.Nat.{◌-◌}
+use Rattle.insertion.proofs.Passing.{pass_on, pass-stop, pass-end}
 use borrow.Author.Rules.{rules}
 use native.Mathlib.Omega.{arith}
 use Rattle.insertion.proofs.passed.Goals as goal

@@ -1,8 +1,6 @@
 -- All ranges passed end by the minute.
-use Rattle.insertion.proofs.Passing.{Pass, pass_on, pass-stop, pass-end}
+use Rattle.insertion.proofs.Passing.{Pass}
 use Prim.Native.Nat.{◌-◌}
-use borrow.Author.Rules.{rules}
-use native.Mathlib.Omega.{arith}
 use Rattle.insertion.proofs.passed.Given as goal
 
 abbrev pub invariant-loop-j : goal.invariant-loop-j

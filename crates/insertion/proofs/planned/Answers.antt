@@ -1,6 +1,5 @@
 -- The bounds are the word's own.
 use native.Mathlib.Omega.{arith}
-use borrow.Author.Rules.{rules}
 use Rattle.insertion.proofs.planned.Goals as goal
 
 pub planned_at-requires : goal.planned_at-requires

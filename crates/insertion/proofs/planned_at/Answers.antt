@@ -1,7 +1,6 @@
 -- The two sides of an insertion, put together.
 use Rattle.insertion.proofs.Planning.{passed_on, planned-is}
 use native.Mathlib.Omega.{arith}
-use borrow.Author.Rules.{rules}
 use Rattle.insertion.proofs.planned_at.Goals as goal
 
 pub right_of-r-requires : goal.right_of-r-requires

@@ -1,6 +1,5 @@
 -- One store, or none.
 use Rattle.insertion.proofs.Moves.{put-none, put_one}
-use borrow.Author.Rules.{rules}
 use Rattle.insertion.proofs.put.Goals as goal
 
 pub returns-then-count-eq1 : goal.returns-then-count-eq1

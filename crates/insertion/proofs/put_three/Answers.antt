@@ -1,7 +1,6 @@
 -- Three stores side by side are one run of stores.
 use Rattle.insertion.proofs.Moves.{one_size, three, three-size}
 use native.Mathlib.Omega.{arith}
-use borrow.Author.Rules.{rules}
 use Rattle.insertion.proofs.put_three.Goals as goal
 
 pub put-requires-2 : goal.put-requires-2

@@ -1,6 +1,5 @@
 -- The same on the right.
 use Rattle.insertion.proofs.Planning.{right-merged, right-cut, right-whole, right-none}
-use borrow.Author.Rules.{rules}
 use Rattle.insertion.proofs.right_of.Goals as goal
 
 pub returns-then-touches : goal.returns-then-touches

@@ -1,6 +1,5 @@
 -- Down or up, by where the words go.
 use Rattle.insertion.proofs.Moves.{shifted}
-use borrow.Author.Rules.{rules}
 use Rattle.insertion.proofs.shift.Goals as goal
 
 pub returns-else-to-t : goal.returns-else-to-t

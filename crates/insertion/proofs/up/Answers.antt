@@ -1,4 +1,4 @@
-use Rattle.insertion.proofs.Moves.{Up, up-begin, up-on, up-end}
+use Rattle.insertion.proofs.Moves.{up-begin, up-on, up-end}
 use Prim.Native.Nat.{◌-◌}
 use borrow.Author.Rules.{rules}
 use native.Mathlib.Omega.{arith}

@@ -1,8 +1,5 @@
 -- The same upwards, from the last word on.
-use Rattle.insertion.proofs.Moves.{Up, up-begin, up-on, up-end}
-use Prim.Native.Nat.{◌-◌}
-use borrow.Author.Rules.{rules}
-use native.Mathlib.Omega.{arith}
+use Rattle.insertion.proofs.Moves.{Up}
 use Rattle.insertion.proofs.up.Given as goal
 
 abbrev pub invariant-loop-i : goal.invariant-loop-i

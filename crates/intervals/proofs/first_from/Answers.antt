@@ -1,8 +1,5 @@
-use mathlib.Core.Path.{◌≡◌, refl, sym, ◌∙◌}
-use Prim.Native.Nat.{◌≤◌, ◌-◌}
+use mathlib.Core.Path.{refl, sym, ◌∙◌}
 use borrow.Author.Rules.{rules}
-use lib.ListN.{length, drop}
-use Rattle.intervals.specs.Search.{first_from}
 use Rattle.intervals.proofs.Walk.{from-here, from_next, from_end}
 use Rattle.intervals.proofs.first_from.Goals as goal
 

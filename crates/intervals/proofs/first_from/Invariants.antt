@@ -1,10 +1,8 @@
 -- The loop: the first end among those left is the first of all.
-use mathlib.Core.Path.{◌≡◌, refl, sym, ◌∙◌}
+use mathlib.Core.Path.{◌≡◌}
 use Prim.Native.Nat.{◌≤◌, ◌-◌}
-use borrow.Author.Rules.{rules}
 use lib.ListN.{length, drop}
 use Rattle.intervals.specs.Search.{first_from}
-use Rattle.intervals.proofs.Walk.{from-here, from_next, from_end}
 use Rattle.intervals.proofs.first_from.Given as goal
 
 abbrev pub invariant-loop-j : goal.invariant-loop-j

@@ -1,10 +1,9 @@
 use mathlib.Core.Path.{◌≡◌, refl, ap, sym, ◌∙◌}
-use mathlib.Core.Bool.{false}
-use Prim.Native.Nat.{◌+◌, ◌≤◌, ◌-◌}
+use Prim.Native.Nat.{◌+◌}
 use native.Mathlib.Omega.{arith}
 use borrow.Author.Rules.{rules}
 use borrow.Author.Tests.{le-leb, lt-leb}
-use lib.ListN.{length, drop, get_or}
+use lib.ListN.{drop, get_or}
 use Rattle.intervals.specs.Search.{first_from, plain}
 use Rattle.intervals.proofs.Same.{same}
 use Rattle.intervals.proofs.Walk.{plain-skip, plain-stop, plain-go, plain_end, end_none, end-some}

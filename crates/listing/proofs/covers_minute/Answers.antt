@@ -1,6 +1,5 @@
 -- By the two tests of a cover.
 use Rattle.listing.proofs.Minutes.{from_start, before-start}
-use borrow.Author.Rules.{rules}
 use Rattle.listing.proofs.covers_minute.Goals as goal
 
 pub returns-then-s-t : goal.returns-then-s-t

@@ -1,7 +1,5 @@
-use Rattle.listing.proofs.Filling.{Holes, holes-begin, next, put-hole, put-range, last-space, put_last, no_last}
-use Prim.Native.Nat.{◌-◌}
+use Rattle.listing.proofs.Filling.{holes-begin, next, put-hole, put-range, last-space, put_last, no_last}
 use native.Mathlib.Omega.{arith}
-use borrow.Author.Rules.{rules}
 use Rattle.listing.proofs.fill.Goals as goal
 
 pub loop-i-init : goal.loop-i-init

@@ -1,8 +1,6 @@
 -- What is written so far and the holes of what is left make the whole; each turn moves the minute on.
-use Rattle.listing.proofs.Filling.{Holes, holes-begin, next, put-hole, put-range, last-space, put_last, no_last}
+use Rattle.listing.proofs.Filling.{Holes}
 use Prim.Native.Nat.{◌-◌}
-use native.Mathlib.Omega.{arith}
-use borrow.Author.Rules.{rules}
 use Rattle.listing.proofs.fill.Given as goal
 
 abbrev pub invariant-loop-i : goal.invariant-loop-i

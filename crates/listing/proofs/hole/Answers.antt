@@ -1,7 +1,6 @@
 -- The word 256 is closed, without a comment.
 use Rattle.listing.proofs.Filling.{closed_is}
 use mathlib.Core.Path.{◌∙◌}
-use borrow.Author.Rules.{rules}
 use Rattle.listing.proofs.hole.Goals as goal
 
 pub returns : goal.returns

@@ -2,7 +2,6 @@
 use Rattle.listing.proofs.Merging.{both-steps}
 use lib.ListN.{take}
 use Rattle.ranges.specs.Words.{ranges}
-use borrow.Author.Rules.{rules}
 use Rattle.listing.proofs.list_in.Goals as goal
 
 pub returns : goal.returns

@@ -1,6 +1,4 @@
-use Rattle.listing.proofs.Merging.{Merge, merge-begin, merge_on, merge-next, merge-end}
-use Prim.Native.Nat.{◌-◌}
-use borrow.Author.Rules.{rules}
+use Rattle.listing.proofs.Merging.{merge-begin, merge_on, merge-next, merge-end}
 use Rattle.listing.proofs.merge.Goals as goal
 
 pub loop-i-init : goal.loop-i-init

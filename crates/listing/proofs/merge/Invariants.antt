@@ -1,7 +1,6 @@
 -- What is written so far and the merging of what is left make the whole.
-use Rattle.listing.proofs.Merging.{Merge, merge-begin, merge_on, merge-next, merge-end}
+use Rattle.listing.proofs.Merging.{Merge}
 use Prim.Native.Nat.{◌-◌}
-use borrow.Author.Rules.{rules}
 use Rattle.listing.proofs.merge.Given as goal
 
 abbrev pub invariant-loop-i : goal.invariant-loop-i

@@ -1,7 +1,5 @@
-use Rattle.listing.proofs.Minutes.{Seeking, seek_stop, seek-on, seek-end}
+use Rattle.listing.proofs.Minutes.{seek_stop, seek-on, seek-end}
 use mathlib.Core.Path.{refl}
-use Prim.Native.Nat.{◌-◌}
-use borrow.Author.Rules.{rules}
 use native.Mathlib.Omega.{arith}
 use Rattle.listing.proofs.state_at.Goals as goal
 

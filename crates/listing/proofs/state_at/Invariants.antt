@@ -1,9 +1,6 @@
 -- What all show at the minute is what those left show.
-use Rattle.listing.proofs.Minutes.{Seeking, seek_stop, seek-on, seek-end}
-use mathlib.Core.Path.{refl}
+use Rattle.listing.proofs.Minutes.{Seeking}
 use Prim.Native.Nat.{◌-◌}
-use borrow.Author.Rules.{rules}
-use native.Mathlib.Omega.{arith}
 use Rattle.listing.proofs.state_at.Given as goal
 
 abbrev pub invariant-loop-i : goal.invariant-loop-i

@@ -1,6 +1,5 @@
 -- The previous where it stands, else all from the rule.
 use Rattle.operators.proofs.Turns.{fallback-kept, fallback-else}
-use borrow.Author.Rules.{rules}
 use Rattle.operators.proofs.as_fallback.Goals as goal
 
 pub returns-then-standing : goal.returns-then-standing

@@ -1,6 +1,5 @@
 -- The rule's evaluation, or the previous one where it lasts.
 use Rattle.operators.proofs.Turns.{normal-rule, normal-kept, normal-else}
-use borrow.Author.Rules.{rules}
 use Rattle.operators.proofs.as_normal.Goals as goal
 
 pub returns-then-e : goal.returns-then-e

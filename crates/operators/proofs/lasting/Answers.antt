@@ -1,6 +1,5 @@
 -- An evaluation that is there lasts unless it is shut.
 use Rattle.operators.proofs.Turns.{last_of}
-use borrow.Author.Rules.{rules}
 use Rattle.operators.proofs.lasting.Goals as goal
 
 pub returns-then-h : goal.returns-then-h

@@ -1,6 +1,5 @@
 -- Both tests.
 use Rattle.operators.proofs.Turns.{stands_of}
-use borrow.Author.Rules.{rules}
 use Rattle.operators.proofs.standing.Goals as goal
 
 pub returns-then-h : goal.returns-then-h

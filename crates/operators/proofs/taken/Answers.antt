@@ -1,6 +1,5 @@
 -- The rule's words are copied to the front.
 use Rattle.operators.proofs.Turns.{taken_of}
-use borrow.Author.Rules.{rules}
 use Rattle.operators.proofs.taken.Goals as goal
 
 pub returns : goal.returns

@@ -1,6 +1,5 @@
 -- The operator and the rule's kind decide which of the three it is.
 use Rattle.operators.proofs.Turns.{normal-closed, normal-other, is-additional, is-fallback}
-use borrow.Author.Rules.{rules}
 use Rattle.operators.proofs.turn.Goals as goal
 
 pub returns-then-kind-eq1 : goal.returns-then-kind-eq1

@@ -1,6 +1,4 @@
-use Rattle.ranges.proofs.Copies.{Same, same-begin, same_more, same-all}
-use Prim.Native.Nat.{◌-◌}
-use borrow.Author.Rules.{rules}
+use Rattle.ranges.proofs.Copies.{same-begin, same_more, same-all}
 use Rattle.ranges.proofs.copy_in.Goals as goal
 
 pub loop-i-init : goal.loop-i-init

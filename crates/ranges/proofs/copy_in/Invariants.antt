@@ -1,7 +1,6 @@
 -- The front is copied so far; behind it the slice is as it was.
-use Rattle.ranges.proofs.Copies.{Same, same-begin, same_more, same-all}
+use Rattle.ranges.proofs.Copies.{Same}
 use Prim.Native.Nat.{◌-◌}
-use borrow.Author.Rules.{rules}
 use Rattle.ranges.proofs.copy_in.Given as goal
 
 abbrev pub invariant-loop-i : goal.invariant-loop-i

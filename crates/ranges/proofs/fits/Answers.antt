@@ -1,6 +1,5 @@
 -- The three tests of a range, in their order.
 use Rattle.ranges.proofs.Validity.{early, bare, of-kinds}
-use borrow.Author.Rules.{rules}
 use Rattle.ranges.proofs.fits.Goals as goal
 
 pub returns-then-s-lo : goal.returns-then-s-lo

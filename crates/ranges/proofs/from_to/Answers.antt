@@ -1,6 +1,5 @@
 -- Two bounds and the low ten bits of a word make a word again.
 use Rattle.ranges.proofs.WordLaws.{between_is}
-use borrow.Author.Rules.{rules}
 use Rattle.ranges.proofs.from_to.Goals as goal
 
 pub returns : goal.returns

@@ -1,6 +1,5 @@
 -- From the first's start to the second's end, in the first's state.
 use Rattle.ranges.proofs.WordLaws.{hull-is}
-use borrow.Author.Rules.{rules}
 use Rattle.ranges.proofs.hull_of.Goals as goal
 
 pub returns : goal.returns

@@ -1,6 +1,5 @@
-use Rattle.ranges.proofs.Validity.{Valid, valid-on, valid-stop, valid-end}
+use Rattle.ranges.proofs.Validity.{valid-on, valid-stop, valid-end}
 use mathlib.Core.Path.{refl}
-use Prim.Native.Nat.{◌-◌}
 use borrow.Author.Rules.{rules}
 use native.Mathlib.Omega.{arith}
 use Rattle.ranges.proofs.in_order.Goals as goal

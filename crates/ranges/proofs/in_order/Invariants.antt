@@ -1,9 +1,6 @@
 -- The test of all is the test of those left, from the end of the last one tested.
-use Rattle.ranges.proofs.Validity.{Valid, valid-on, valid-stop, valid-end}
-use mathlib.Core.Path.{refl}
+use Rattle.ranges.proofs.Validity.{Valid}
 use Prim.Native.Nat.{◌-◌}
-use borrow.Author.Rules.{rules}
-use native.Mathlib.Omega.{arith}
 use Rattle.ranges.proofs.in_order.Given as goal
 
 abbrev pub invariant-loop-i : goal.invariant-loop-i

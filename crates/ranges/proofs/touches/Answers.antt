@@ -1,6 +1,5 @@
 -- The end of one is the start of the other, and the states are equal.
 use Rattle.ranges.proofs.WordLaws.{touch-on, touch-off}
-use borrow.Author.Rules.{rules}
 use Rattle.ranges.proofs.touches.Goals as goal
 
 pub returns-then-end-start : goal.returns-then-end-start

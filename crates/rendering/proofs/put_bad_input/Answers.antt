@@ -1,5 +1,4 @@
 -- The bytes stored are those of the line.
-use borrow.Author.Rules.{rules}
 use Rattle.rendering.proofs.put_bad_input.Goals as goal
 
 -- TODO no goal

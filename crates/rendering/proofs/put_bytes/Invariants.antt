@@ -1,11 +1,8 @@
 -- What is stored, with what is left of the bytes, gives all of them.
-use mathlib.Core.Path.{◌≡◌, ◌∙◌}
+use mathlib.Core.Path.{◌≡◌}
 use Prim.Native.Nat.{◌+◌, ◌-◌, ◌≤◌}
-use lib.ListN.{length, drop, length-set}
+use lib.ListN.{length, drop}
 use lib.Seq.{sets}
-use native.Mathlib.Omega.{arith}
-use borrow.Author.Rules.{rules}
-use Rattle.rendering.proofs.Stores.{front-step, front-done}
 use Rattle.rendering.proofs.put_bytes.Given as goal
 
 abbrev pub invariant-loop-i : goal.invariant-loop-i

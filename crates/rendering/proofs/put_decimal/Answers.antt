@@ -1,10 +1,7 @@
-use mathlib.Core.Path.{◌≡◌, refl, ◌∙◌}
-use Prim.Native.Nat.{◌-◌, ◌≤◌}
-use lib.ListN.{length, length-set}
-use lib.Seq.{sets}
+use mathlib.Core.Path.{refl, ◌∙◌}
+use lib.ListN.{length-set}
 use native.Mathlib.Omega.{arith}
-use borrow.Author.Rules.{rules}
-use Rattle.rendering.proofs.Decimals.{digits, last-digit, stored-all}
+use Rattle.rendering.proofs.Decimals.{last-digit, stored-all}
 use Rattle.rendering.proofs.put_decimal.Goals as goal
 
 pub loop-p-init : goal.loop-p-init

@@ -1,11 +1,9 @@
 -- The digits still to store, in front of those stored, give all of them.
-use mathlib.Core.Path.{◌≡◌, refl, ◌∙◌}
+use mathlib.Core.Path.{◌≡◌}
 use Prim.Native.Nat.{◌-◌, ◌≤◌}
-use lib.ListN.{length, length-set}
+use lib.ListN.{length}
 use lib.Seq.{sets}
-use native.Mathlib.Omega.{arith}
-use borrow.Author.Rules.{rules}
-use Rattle.rendering.proofs.Decimals.{digits, last-digit, stored-all}
+use Rattle.rendering.proofs.Decimals.{digits}
 use Rattle.rendering.proofs.put_decimal.Given as goal
 
 abbrev pub invariant-loop-p : goal.invariant-loop-p

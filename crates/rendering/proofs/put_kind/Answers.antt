@@ -2,7 +2,6 @@
 use native.Mathlib.Omega.{arith}
 use borrow.Author.Tests.{eq-eqb, ne_eqb}
 use Rattle.rendering.specs.Text.{kind_text}
-use borrow.Author.Rules.{rules}
 use Rattle.rendering.proofs.put_kind.Goals as goal
 
 -- TODO no goal

@@ -2,7 +2,6 @@
 use mathlib.Core.List.{[], ◌∷◌}
 use Rattle.rendering.specs.Text.{decimal}
 use Rattle.rendering.proofs.Stores.{then, one_more}
-use borrow.Author.Rules.{rules}
 use Rattle.rendering.proofs.put_last.Goals as goal
 
 pub returns : goal.returns

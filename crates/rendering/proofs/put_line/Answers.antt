@@ -5,7 +5,6 @@ use Rattle.ranges.specs.Words.{range_of}
 use Rattle.rendering.specs.Text.{spaced, ended, time_text, kind_text, decimal, line_of}
 use Rattle.rendering.proofs.Stores.{then}
 use Rattle.rendering.proofs.Lines.{kind-length, comment-short}
-use borrow.Author.Rules.{rules}
 use Rattle.rendering.proofs.put_line.Goals as goal
 
 pub put_last-requires : goal.put_last-requires

@@ -1,10 +1,8 @@
 use mathlib.Core.Path.{refl}
-use Prim.Native.Nat.{◌-◌}
-use lib.ListN.{length}
 use native.Mathlib.Omega.{arith}
 use borrow.Author.Rules.{rules}
 use Rattle.rendering.proofs.Stores.{nothing}
-use Rattle.rendering.proofs.Lines.{Lined, line-more, lined-all}
+use Rattle.rendering.proofs.Lines.{line-more, lined-all}
 use Rattle.rendering.proofs.put_lines.Goals as goal
 
 pub loop-i-init : goal.loop-i-init

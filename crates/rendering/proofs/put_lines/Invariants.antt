@@ -1,11 +1,7 @@
 -- After i turns the lines of the first i words stand there, 24 bytes each at most.
-use mathlib.Core.Path.{refl}
 use Prim.Native.Nat.{◌-◌}
 use lib.ListN.{length}
-use native.Mathlib.Omega.{arith}
-use borrow.Author.Rules.{rules}
-use Rattle.rendering.proofs.Stores.{nothing}
-use Rattle.rendering.proofs.Lines.{Lined, line-more, lined-all}
+use Rattle.rendering.proofs.Lines.{Lined}
 use Rattle.rendering.proofs.put_lines.Given as goal
 
 abbrev pub invariant-loop-i : goal.invariant-loop-i

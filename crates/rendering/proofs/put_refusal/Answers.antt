@@ -3,7 +3,6 @@ use native.Mathlib.Omega.{arith}
 use Rattle.rendering.specs.Text.{ended, decimal, refused_text, place_text, refusal_line}
 use Rattle.rendering.proofs.Stores.{then}
 use Rattle.rendering.proofs.Lines.{comment-short, number_short}
-use borrow.Author.Rules.{rules}
 use Rattle.rendering.proofs.put_refusal.Goals as goal
 
 -- TODO no goal

@@ -5,7 +5,6 @@ use lib.ListN.{length-set}
 use Rattle.rendering.specs.Text.{digit}
 use Rattle.rendering.proofs.Stores.{six}
 use native.Mathlib.Omega.{arith}
-use borrow.Author.Rules.{rules}
 use Rattle.rendering.proofs.put_time.Goals as goal
 
 pub bounds-out-at-2 : goal.bounds-out-at-2

@@ -1,6 +1,5 @@
 use native.Mathlib.Omega.{arith}
-use borrow.Author.Rules.{rules}
-use Rattle.rendering.proofs.Decimals.{Counted, counted-begin, counted-more, counted-all}
+use Rattle.rendering.proofs.Decimals.{counted-begin, counted-more, counted-all}
 use Rattle.rendering.proofs.width.Goals as goal
 
 pub loop-rest-init : goal.loop-rest-init

@@ -1,7 +1,5 @@
 -- The digits counted and those of what is left are those of the number; what is left falls.
-use native.Mathlib.Omega.{arith}
-use borrow.Author.Rules.{rules}
-use Rattle.rendering.proofs.Decimals.{Counted, counted-begin, counted-more, counted-all}
+use Rattle.rendering.proofs.Decimals.{Counted}
 use Rattle.rendering.proofs.width.Given as goal
 
 abbrev pub invariant-loop-rest : goal.invariant-loop-rest

@@ -1,6 +1,5 @@
 -- By the reading's end.
 use Rattle.rule_image.proofs.ReadingLaws.{verdict-accepted, verdict-refused}
-use borrow.Author.Rules.{rules}
 use Rattle.rule_image.proofs.check_sheet.Goals as goal
 
 pub returns-in-At : goal.returns-in-At

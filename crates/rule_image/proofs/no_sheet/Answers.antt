@@ -1,6 +1,5 @@
 -- Thirty-two times what stands behind a sheet's count.
 use Rattle.rule_image.proofs.ReadingLaws.{no-sheet-made}
-use borrow.Author.Rules.{rules}
 use Rattle.rule_image.proofs.no_sheet.Goals as goal
 
 pub returns : goal.returns

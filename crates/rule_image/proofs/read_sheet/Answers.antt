@@ -1,11 +1,6 @@
-use Prim.Native.Nat.{◌≤◌, ◌-◌, ◌+◌, ◌*◌}
-use mathlib.Core.Path.{◌≡◌}
 use native.Mathlib.Omega.{arith}
-use borrow.Author.Rules.{rules}
-use Rattle.bits.specs.Place.{bit_of}
 use Rattle.rules.specs.Nothing.{no_rule}
 use Rattle.rule_lists.proofs.ListLaws.{listed-step, listed-none}
-use Rattle.rule_image.specs.Reading.{rules_at}
 use Rattle.rule_image.proofs.ReadingLaws.{sheet-whole, read-accepted, read-refused}
 use Rattle.rule_image.proofs.read_sheet.Goals as goal
 

@@ -1,13 +1,8 @@
 -- The loop's invariant: what was set so far is the list of the first i rules. An accepted image keeps its sheet, a refused one has none.
 use Prim.Native.Nat.{◌≤◌, ◌-◌, ◌+◌, ◌*◌}
 use mathlib.Core.Path.{◌≡◌}
-use native.Mathlib.Omega.{arith}
-use borrow.Author.Rules.{rules}
 use Rattle.bits.specs.Place.{bit_of}
-use Rattle.rules.specs.Nothing.{no_rule}
-use Rattle.rule_lists.proofs.ListLaws.{listed-step, listed-none}
 use Rattle.rule_image.specs.Reading.{rules_at}
-use Rattle.rule_image.proofs.ReadingLaws.{sheet-whole, read-accepted, read-refused}
 use Rattle.rule_image.proofs.read_sheet.Given as goal
 
 abbrev pub invariant-loop-i : goal.invariant-loop-i

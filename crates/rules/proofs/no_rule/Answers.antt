@@ -1,5 +1,4 @@
 -- Each list is filled with the item that its function gives.
-use borrow.Author.Rules.{rules}
 use Rattle.rules.proofs.no_rule.Goals as goal
 
 pub returns : goal.returns

@@ -1,6 +1,5 @@
-use Rattle.schedule.proofs.Adding.{Adding, adding-begin, add-ready, add-more, add-end}
+use Rattle.schedule.proofs.Adding.{adding-begin, add-ready, add-more, add-end}
 use Prim.Native.Nat.{◌-◌}
-use borrow.Author.Rules.{rules}
 use native.Mathlib.Omega.{arith}
 use Rattle.schedule.proofs.add_in.Goals as goal
 

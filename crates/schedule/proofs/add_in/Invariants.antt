@@ -1,8 +1,5 @@
 -- The room holds the first list with the last ranges of the second over it; the count of those left falls.
-use Rattle.schedule.proofs.Adding.{Adding, adding-begin, add-ready, add-more, add-end}
-use Prim.Native.Nat.{◌-◌}
-use borrow.Author.Rules.{rules}
-use native.Mathlib.Omega.{arith}
+use Rattle.schedule.proofs.Adding.{Adding}
 use Rattle.schedule.proofs.add_in.Given as goal
 
 abbrev pub invariant-loop-j : goal.invariant-loop-j

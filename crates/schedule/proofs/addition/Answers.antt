@@ -1,6 +1,5 @@
 -- 10 for the first, 10 for the second, then the sum.
 use Rattle.schedule.proofs.Answers.{valid-in, first-bad, second-bad, both-good}
-use borrow.Author.Rules.{rules}
 use Rattle.schedule.proofs.addition.Goals as goal
 
 pub added-requires : goal.added-requires

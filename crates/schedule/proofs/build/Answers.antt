@@ -1,6 +1,5 @@
 -- 2 for the kind, then 3, then the runs.
 use Rattle.schedule.proofs.Answers.{bad_kind, too_many, too-late, good-list}
-use borrow.Author.Rules.{rules}
 use Rattle.schedule.proofs.build.Goals as goal
 
 pub returns-then-ends_fit : goal.returns-then-ends_fit

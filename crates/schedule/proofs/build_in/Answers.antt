@@ -1,6 +1,5 @@
-use Rattle.schedule.proofs.Building.{Building, build-begin, span_fits, build-ready, build-more, build-skip, build-end}
+use Rattle.schedule.proofs.Building.{build-begin, span_fits, build-ready, build-more, build-skip, build-end}
 use Prim.Native.Nat.{◌-◌}
-use borrow.Author.Rules.{rules}
 use native.Mathlib.Omega.{arith}
 use Rattle.schedule.proofs.build_in.Goals as goal
 

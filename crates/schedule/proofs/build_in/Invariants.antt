@@ -1,8 +1,5 @@
 -- The room holds the build of the last spans; the count of those left falls.
-use Rattle.schedule.proofs.Building.{Building, build-begin, span_fits, build-ready, build-more, build-skip, build-end}
-use Prim.Native.Nat.{◌-◌}
-use borrow.Author.Rules.{rules}
-use native.Mathlib.Omega.{arith}
+use Rattle.schedule.proofs.Building.{Building}
 use Rattle.schedule.proofs.build_in.Given as goal
 
 abbrev pub invariant-loop-j : goal.invariant-loop-j

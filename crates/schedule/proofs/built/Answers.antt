@@ -1,7 +1,6 @@
 -- All given spans go in.
 use Rattle.schedule.proofs.Answers.{build-ready, build-made}
 use native.Mathlib.Omega.{arith}
-use borrow.Author.Rules.{rules}
 use Rattle.schedule.proofs.built.Goals as goal
 
 pub build_in-r-requires : goal.build_in-r-requires

@@ -1,6 +1,5 @@
 -- The filled array is 0 behind the words copied.
 use Rattle.schedule.proofs.Answers.{made-is}
-use borrow.Author.Rules.{rules}
 use Rattle.schedule.proofs.copy_out.Goals as goal
 
 pub returns : goal.returns

@@ -1,6 +1,4 @@
-use Rattle.schedule.proofs.Dropping.{Dropping, drop-begin, drop-skip, drop-keep, drop-end}
-use Prim.Native.Nat.{◌-◌}
-use borrow.Author.Rules.{rules}
+use Rattle.schedule.proofs.Dropping.{drop-begin, drop-skip, drop-keep, drop-end}
 use Rattle.schedule.proofs.drop_in.Goals as goal
 
 pub loop-i-init : goal.loop-i-init

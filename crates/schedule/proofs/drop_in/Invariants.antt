@@ -1,7 +1,6 @@
 -- What is kept so far and what is left to look at make the whole.
-use Rattle.schedule.proofs.Dropping.{Dropping, drop-begin, drop-skip, drop-keep, drop-end}
+use Rattle.schedule.proofs.Dropping.{Dropping}
 use Prim.Native.Nat.{◌-◌}
-use borrow.Author.Rules.{rules}
 use Rattle.schedule.proofs.drop_in.Given as goal
 
 abbrev pub invariant-loop-i : goal.invariant-loop-i

@@ -1,8 +1,5 @@
-use Rattle.schedule.proofs.Building.{Ends, ends_on, ends-stop, ends-all}
-use Prim.Native.Nat.{◌-◌}
-use lib.ListN.{length}
+use Rattle.schedule.proofs.Building.{ends_on, ends-stop, ends-all}
 use mathlib.Core.Path.{refl}
-use borrow.Author.Rules.{rules}
 use native.Mathlib.Omega.{arith}
 use Rattle.schedule.proofs.ends_fit.Goals as goal
 

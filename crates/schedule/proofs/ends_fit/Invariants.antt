@@ -1,10 +1,7 @@
 -- The test of all is the test of those left.
-use Rattle.schedule.proofs.Building.{Ends, ends_on, ends-stop, ends-all}
+use Rattle.schedule.proofs.Building.{Ends}
 use Prim.Native.Nat.{◌-◌}
 use lib.ListN.{length}
-use mathlib.Core.Path.{refl}
-use borrow.Author.Rules.{rules}
-use native.Mathlib.Omega.{arith}
 use Rattle.schedule.proofs.ends_fit.Given as goal
 
 abbrev pub invariant-loop-i : goal.invariant-loop-i

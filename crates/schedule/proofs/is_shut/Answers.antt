@@ -1,7 +1,5 @@
-use Rattle.schedule.proofs.Dropping.{Shut, shut-stop, shut-on, shut-end}
-use Prim.Native.Nat.{◌-◌}
+use Rattle.schedule.proofs.Dropping.{shut-stop, shut-on, shut-end}
 use mathlib.Core.Path.{refl}
-use borrow.Author.Rules.{rules}
 use native.Mathlib.Omega.{arith}
 use Rattle.schedule.proofs.is_shut.Goals as goal
 

@@ -1,6 +1,5 @@
 -- The refused answer holds the empty schedule.
 use Rattle.schedule.proofs.Answers.{refused-is}
-use borrow.Author.Rules.{rules}
 use Rattle.schedule.proofs.refuse.Goals as goal
 
 pub returns : goal.returns

@@ -1,5 +1,4 @@
 -- `as_naive` meets its contract: it chains its parts as the definition does.
-use borrow.Author.Rules.{rules}
 use Rattle.time_filter.specs.Spans.{interval_of}
 use Rattle.time_filter.proofs.as_naive.Goals as goal
 

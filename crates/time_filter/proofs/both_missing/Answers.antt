@@ -1,5 +1,4 @@
 -- `both_missing` meets its contract: its test is the definition's.
-use borrow.Author.Rules.{rules}
 use Rattle.time_filter.specs.Spans.{both_missing}
 use Rattle.time_filter.proofs.both_missing.Goals as goal
 

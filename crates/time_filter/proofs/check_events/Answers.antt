@@ -1,5 +1,4 @@
 -- `check_events` meets its contract: each return is the definition's at the first time that is bad, all before being good.
-use borrow.Author.Rules.{rules}
 use Rattle.time_filter.specs.Refusal.{lowest_bad}
 use Rattle.time_filter.proofs.Judging.{bad, good}
 use Rattle.time_filter.proofs.check_events.Goals as goal

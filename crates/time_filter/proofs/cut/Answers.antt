@@ -1,5 +1,4 @@
 -- `cut` meets its contract: the arms are the definition's cases.
-use borrow.Author.Rules.{rules}
 use Rattle.time_filter.specs.Cuts.{cut_of}
 use Rattle.time_filter.proofs.cut.Goals as goal
 

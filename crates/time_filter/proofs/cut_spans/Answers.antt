@@ -1,12 +1,11 @@
 use mathlib.Core.Path.{◌≡◌, ◌∙◌, ap}
 use mathlib.Core.List.{List}
-use Prim.Native.Nat.{ℕ, ◌-◌}
+use Prim.Native.Nat.{ℕ}
 use borrow.Author.Rules.{rules}
 use lib.ListN.{length}
-use Rattle.time_filter.specs.Spans.{interval_of}
 use Rattle.time_filter.specs.Cuts.{cut_of, cuts_of}
 use Rattle.time_filter.specs.declared.Cuts.{Cuts}
-use Rattle.time_filter.proofs.Filling.{Filling, fill_none, fill_on, fill_done, length-mapped}
+use Rattle.time_filter.proofs.Filling.{fill_none, fill_on, fill_done, length-mapped}
 use Rattle.time_filter.proofs.cut_spans.Goals as goal
 
 abbrev made : ℕ → List ℕ → Cuts

@@ -1,13 +1,8 @@
 -- `cut_spans` meets its contract. The loop's invariant: the words of the spans passed, and zeros behind them.
-use mathlib.Core.Path.{◌≡◌, ◌∙◌, ap}
-use mathlib.Core.List.{List}
-use Prim.Native.Nat.{ℕ, ◌-◌}
-use borrow.Author.Rules.{rules}
-use lib.ListN.{length}
+use Prim.Native.Nat.{◌-◌}
 use Rattle.time_filter.specs.Spans.{interval_of}
-use Rattle.time_filter.specs.Cuts.{cut_of, cuts_of}
-use Rattle.time_filter.specs.declared.Cuts.{Cuts}
-use Rattle.time_filter.proofs.Filling.{Filling, fill_none, fill_on, fill_done, length-mapped}
+use Rattle.time_filter.specs.Cuts.{cut_of}
+use Rattle.time_filter.proofs.Filling.{Filling}
 use Rattle.time_filter.proofs.cut_spans.Given as goal
 
 abbrev pub invariant-loop-i : goal.invariant-loop-i

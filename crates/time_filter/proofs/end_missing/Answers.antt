@@ -1,5 +1,4 @@
 -- `end_missing` meets its contract: its test is the definition's.
-use borrow.Author.Rules.{rules}
 use Rattle.time_filter.specs.Spans.{end_missing}
 use Rattle.time_filter.proofs.end_missing.Goals as goal
 

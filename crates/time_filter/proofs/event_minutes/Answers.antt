@@ -1,5 +1,4 @@
 -- `event_minutes` meets its contract: the arms are the row's four places, and a row has no fifth.
-use Rattle.time_filter.proofs.Rows.{no-fifth}
 use Rattle.time_filter.proofs.event_minutes.Goals as goal
 
 pub returns-in-0 : goal.returns-in-0

@@ -1,6 +1,5 @@
 -- `event_time` meets its contract: it is the moment of the row's minutes.
 use mathlib.Core.Path.{◌∙◌, ap}
-use borrow.Author.Rules.{rules}
 use Rattle.extended_time.specs.Moments.{moment_of}
 use Rattle.time_filter.specs.Spans.{event_at}
 use Rattle.time_filter.proofs.event_time.Goals as goal

@@ -1,6 +1,5 @@
 -- `filled` meets its contract: its four arms are the definition's cases.
 use mathlib.Core.Path.{◌∙◌, ap}
-use borrow.Author.Rules.{rules}
 use Rattle.time_filter.specs.Spans.{filled_span, start_missing, end_missing}
 use Rattle.time_filter.proofs.filled.Goals as goal
 

@@ -1,5 +1,4 @@
 -- `is_morning` meets its contract: the arms are the definition's cases.
-use borrow.Author.Rules.{rules}
 use Rattle.time_filter.specs.Spans.{morning}
 use Rattle.time_filter.proofs.is_morning.Goals as goal
 

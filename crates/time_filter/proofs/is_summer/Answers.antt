@@ -1,7 +1,6 @@
 -- `is_summer` meets its contract: not before 20 March, and before 22 September.
 use mathlib.Core.Path.{sym, ◌∙◌}
-use borrow.Author.Rules.{rules}
-use Rattle.time_filter.specs.Spans.{before, summer}
+use Rattle.time_filter.specs.Spans.{summer}
 use Rattle.time_filter.proofs.is_summer.Goals as goal
 
 pub returns-then-is_before : goal.returns-then-is_before

@@ -1,7 +1,6 @@
 -- `later_end` meets its contract: an end below 24:00 gains a day, any other is held at 48:00.
 use native.Mathlib.Omega.{arith}
 use borrow.Author.Tests.{lt-ltb, le-ltb}
-use borrow.Author.Rules.{rules}
 use Rattle.time_filter.specs.Spans.{later_end}
 use Rattle.time_filter.proofs.later_end.Goals as goal
 

@@ -1,5 +1,4 @@
 -- `start_missing` meets its contract: its test is the definition's.
-use borrow.Author.Rules.{rules}
 use Rattle.time_filter.specs.Spans.{start_missing}
 use Rattle.time_filter.proofs.start_missing.Goals as goal
 

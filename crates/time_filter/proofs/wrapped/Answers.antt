@@ -1,5 +1,4 @@
 -- `wrapped` meets its contract: the arms are the definition's cases.
-use borrow.Author.Rules.{rules}
 use Rattle.time_filter.specs.Spans.{wrapped_end}
 use Rattle.time_filter.proofs.wrapped.Goals as goal
 

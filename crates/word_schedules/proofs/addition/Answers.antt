@@ -1,7 +1,6 @@
 -- 10 for the first, 10 for the second, then the sum.
 use mathlib.Core.Path.{sym, ◌∙◌}
 use Rattle.word_schedules.proofs.StoreLaws.{first-refused, second-refused}
-use borrow.Author.Rules.{rules}
 use Rattle.word_schedules.proofs.addition.Goals as goal
 
 pub added-requires : goal.added-requires

@@ -1,6 +1,5 @@
 -- The words of the built schedule, unless it is refused.
 use Rattle.word_schedules.proofs.StoreLaws.{refused-stores, accepted-stores, same-stores, build-long}
-use borrow.Author.Rules.{rules}
 use Rattle.word_schedules.proofs.build.Goals as goal
 
 pub store-requires : goal.store-requires

@@ -1,6 +1,5 @@
 -- At most 64 words, in order.
 use Rattle.word_schedules.proofs.StoreLaws.{offered-some, offered-none}
-use borrow.Author.Rules.{rules}
 use Rattle.word_schedules.proofs.is_offered.Goals as goal
 
 pub returns-then-words-le64 : goal.returns-then-words-le64

@@ -1,6 +1,5 @@
 -- They are copied if they fit.
 use Rattle.word_schedules.proofs.StoreLaws.{fits, too_long}
-use borrow.Author.Rules.{rules}
 use Rattle.word_schedules.proofs.store.Goals as goal
 
 pub returns-then-n-out : goal.returns-then-n-out

@@ -1,7 +1,6 @@
 -- 10 for words that are no schedule, else the listing of their ranges.
 use mathlib.Core.Path.{sym, ◌∙◌}
 use Rattle.word_schedules.proofs.StoreLaws.{list-ready, lists, lists-not}
-use borrow.Author.Rules.{rules}
 use Rattle.word_schedules.proofs.write_listing.Goals as goal
 
 pub write_in-requires : goal.write_in-requires

@@ -1,6 +1,5 @@
 -- `add_hours` meets its contract: the hours' minutes fit 16 bits.
 use mathlib.Core.Path.{ap, ◌∙◌}
-use borrow.Author.Rules.{rules}
 use mir.Syntax.{w8, w16}
 use mir.Facts.{to_z-of_z, sfits_widen}
 use Rattle.extended_time.specs.Moments.{sum_of}

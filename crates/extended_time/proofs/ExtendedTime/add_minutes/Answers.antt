@@ -2,7 +2,7 @@
 use mathlib.Core.Path.{◌≡◌, ap, ◌∙◌}
 use native.Mathlib.Omega.{arith}
 use borrow.Author.Rules.{rules}
-use lib.IntN.{ℤ, pos, ◌+ℤ◌}
+use lib.IntN.{pos, ◌+ℤ◌}
 use mir.Syntax.{w16, w32}
 use mir.Val.{SFits, to_z, of_z}
 use mir.Facts.{to_z-of_z, to_z_pos, sfits_widen}

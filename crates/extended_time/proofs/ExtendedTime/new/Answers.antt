@@ -1,5 +1,4 @@
 -- `new` meets its contract: its test is the definition's, and its minutes fit 16 bits.
-use borrow.Author.Rules.{rules}
 use borrow.Author.Tests.{le-leb, lt-leb}
 use Rattle.extended_time.specs.Moments.{clock_time}
 use Rattle.extended_time.proofs.ExtendedTime.new.Goals as goal

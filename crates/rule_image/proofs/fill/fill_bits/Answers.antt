@@ -1,8 +1,6 @@
-use Prim.Native.Nat.{◌≤◌, ◌-◌, ◌+◌}
 use mathlib.Core.Path.{◌≡◌, refl}
 use native.Mathlib.Omega.{arith}
 use borrow.Author.Rules.{rules}
-use Rattle.bits.specs.Place.{bit_of}
 use Rattle.rule_image.specs.Reading.{fill_bits}
 use Rattle.rule_image.proofs.ReadingLaws.{fill_step}
 use Rattle.rule_image.proofs.fill.fill_bits.Goals as goal

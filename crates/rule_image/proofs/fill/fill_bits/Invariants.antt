@@ -1,11 +1,8 @@
 -- The loop's invariant: the place behind i fill bits.
 use Prim.Native.Nat.{◌≤◌, ◌-◌, ◌+◌}
-use mathlib.Core.Path.{◌≡◌, refl}
-use native.Mathlib.Omega.{arith}
-use borrow.Author.Rules.{rules}
+use mathlib.Core.Path.{◌≡◌}
 use Rattle.bits.specs.Place.{bit_of}
 use Rattle.rule_image.specs.Reading.{fill_bits}
-use Rattle.rule_image.proofs.ReadingLaws.{fill_step}
 use Rattle.rule_image.proofs.fill.fill_bits.Given as goal
 
 abbrev pub invariant-loop-i : goal.invariant-loop-i

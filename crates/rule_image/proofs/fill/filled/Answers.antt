@@ -1,5 +1,4 @@
 -- Fill bits, then the end.
-use borrow.Author.Rules.{rules}
 use Rattle.rule_image.proofs.ReadingLaws.{filled-made}
 use Rattle.rule_image.proofs.fill.filled.Goals as goal
 

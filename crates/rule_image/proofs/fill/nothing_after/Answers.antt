@@ -1,6 +1,5 @@
 -- By the place and the image's length.
 use Rattle.rule_image.proofs.ReadingLaws.{end_more, end-here, end_refused}
-use borrow.Author.Rules.{rules}
 use Rattle.rule_image.proofs.fill.nothing_after.Goals as goal
 
 pub returns-then-at-image : goal.returns-then-at-image

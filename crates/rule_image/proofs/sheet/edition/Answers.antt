@@ -1,6 +1,5 @@
 -- The code is read whole; one number stays, the others have no meaning.
 use native.Mathlib.Omega.{arith}
-use borrow.Author.Rules.{rules}
 use Rattle.bits.proofs.ReadLaws.{coded, uncoded}
 use Rattle.rule_image.proofs.ReadingLaws.{alone}
 use Rattle.rule_image.proofs.sheet.edition.Goals as goal

@@ -1,7 +1,6 @@
 -- Edition, reserved bits and count in their order.
 use Rattle.rule_image.proofs.ReadingLaws.{header_made}
 use native.Mathlib.Omega.{arith}
-use borrow.Author.Rules.{rules}
 use Rattle.rule_image.proofs.sheet.header.Goals as goal
 
 pub returns : goal.returns

@@ -5,7 +5,6 @@ use Rattle.bits.specs.declared.Place.{Place}
 use Rattle.rules.specs.declared.Operator.{Operator}
 use Rattle.rule_items.specs.Codes.{operator_of, operator_at}
 use Rattle.bits.proofs.ReadLaws.{tag-right, tag-wrong, unmeant-low}
-use Rattle.rule_items.proofs.ItemLaws.{above-two}
 use native.Mathlib.Omega.{arith}
 use borrow.Author.Rules.{rules}
 use Rattle.rule_items.proofs.codes.operator.Goals as goal

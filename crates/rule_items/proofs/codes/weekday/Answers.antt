@@ -1,7 +1,6 @@
 -- The code is read whole; 0 to 6 stay, 7 has no meaning.
 use Rattle.bits.proofs.ReadLaws.{coded, uncoded, too-high}
 use native.Mathlib.Omega.{arith}
-use borrow.Author.Rules.{rules}
 use Rattle.rule_items.proofs.codes.weekday.Goals as goal
 
 pub returns-in-0-to-6 : goal.returns-in-0-to-6

@@ -2,7 +2,6 @@
 use mathlib.Core.Path.{◌∙◌}
 use Rattle.rule_items.specs.Dates.{date_form, date_at}
 use Rattle.bits.proofs.ReadLaws.{tag-right, tag-wrong, unmeant-low}
-use Rattle.rule_items.proofs.ItemLaws.{above-two}
 use native.Mathlib.Omega.{arith}
 use borrow.Author.Rules.{rules}
 use Rattle.rule_items.proofs.dates.date.Goals as goal

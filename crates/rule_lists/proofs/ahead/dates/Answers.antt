@@ -1,6 +1,5 @@
 -- The tag, and two dates, the second behind the first.
 use native.Mathlib.Omega.{arith}
-use borrow.Author.Rules.{rules}
 use Rattle.rule_words.proofs.WordLaws.{dates-found, date-top}
 use Rattle.rule_lists.proofs.ListLaws.{taken_none, above}
 use Rattle.rule_lists.proofs.ahead.dates.Goals as goal

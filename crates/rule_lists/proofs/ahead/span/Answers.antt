@@ -1,7 +1,6 @@
 -- Two times, the second behind the first.
 use mathlib.Core.Path.{refl}
 use native.Mathlib.Omega.{arith}
-use borrow.Author.Rules.{rules}
 use Rattle.rule_words.proofs.WordLaws.{span-found}
 use Rattle.rule_lists.proofs.ListLaws.{taken_none, above}
 use Rattle.rule_lists.proofs.ahead.span.Goals as goal

@@ -1,11 +1,8 @@
-use Prim.Native.Nat.{◌<◌, ◌≤◌, ◌-◌, ◌+◌, ◌*◌, ◌^◌}
-use mathlib.Core.Path.{◌≡◌, ap}
+use mathlib.Core.Path.{ap}
 use native.Mathlib.Omega.{arith}
 use borrow.Author.Rules.{rules}
 use Rattle.bits.specs.Place.{bit_of}
-use Rattle.bits.specs.declared.Place.TheVariants.{At}
 use Rattle.rule_words.proofs.WordLaws.{week-found}
-use Rattle.rule_lists.specs.RuleAt.{weeks_at}
 use Rattle.rule_lists.proofs.ListLaws.{listed-step, listed-none, begun-at, begun-none}
 use Rattle.rule_lists.proofs.ahead.weeks.Goals as goal
 

@@ -1,13 +1,8 @@
 -- The loop's invariant: what was set so far is the list of the first i items, and the next begins at p.
 use Prim.Native.Nat.{◌<◌, ◌≤◌, ◌-◌, ◌+◌, ◌*◌, ◌^◌}
-use mathlib.Core.Path.{◌≡◌, ap}
-use native.Mathlib.Omega.{arith}
-use borrow.Author.Rules.{rules}
-use Rattle.bits.specs.Place.{bit_of}
+use mathlib.Core.Path.{◌≡◌}
 use Rattle.bits.specs.declared.Place.TheVariants.{At}
-use Rattle.rule_words.proofs.WordLaws.{week-found}
 use Rattle.rule_lists.specs.RuleAt.{weeks_at}
-use Rattle.rule_lists.proofs.ListLaws.{listed-step, listed-none, begun-at, begun-none}
 use Rattle.rule_lists.proofs.ahead.weeks.Given as goal
 
 abbrev pub invariant-loop-i : goal.invariant-loop-i

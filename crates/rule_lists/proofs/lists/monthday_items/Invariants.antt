@@ -1,12 +1,9 @@
 -- The loop's invariant: what was set so far is the list of the first i items, if what was begun is the list of the first i₀.
 use Prim.Native.Nat.{◌<◌, ◌≤◌, ◌-◌, ◌+◌, ◌*◌, ◌^◌}
 use mathlib.Core.Path.{◌≡◌}
-use native.Mathlib.Omega.{arith}
-use borrow.Author.Rules.{rules}
 use Rattle.bits.specs.Place.{bit_of}
 use Rattle.bits.specs.declared.Place.{Place}
 use Rattle.rule_lists.specs.RuleAt.{monthdays_at}
-use Rattle.rule_lists.proofs.ListLaws.{listed-step}
 use Rattle.rule_lists.proofs.lists.monthday_items.Given as goal
 
 abbrev pub invariant-loop-i : goal.invariant-loop-i

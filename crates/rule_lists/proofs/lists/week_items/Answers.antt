@@ -1,10 +1,5 @@
-use Prim.Native.Nat.{◌<◌, ◌≤◌, ◌-◌, ◌+◌, ◌*◌, ◌^◌}
 use mathlib.Core.Path.{◌≡◌}
 use native.Mathlib.Omega.{arith}
-use borrow.Author.Rules.{rules}
-use Rattle.bits.specs.Place.{bit_of}
-use Rattle.bits.specs.declared.Place.{Place}
-use Rattle.rule_lists.specs.RuleAt.{weeks_at}
 use Rattle.rule_lists.proofs.ListLaws.{listed-step}
 use Rattle.rule_lists.proofs.lists.week_items.Goals as goal
 

@@ -1,7 +1,6 @@
 -- Five counts in their order, each at most 8.
 use Rattle.rule_lists.proofs.ListLaws.{counts-made}
 use native.Mathlib.Omega.{arith}
-use borrow.Author.Rules.{rules}
 use Rattle.rule_lists.proofs.rule.counts.Goals as goal
 
 pub returns : goal.returns

@@ -1,7 +1,6 @@
 -- The head, the counts and the five lists in their order.
 use Rattle.rule_lists.proofs.ListLaws.{rule-made}
 use native.Mathlib.Omega.{arith}
-use borrow.Author.Rules.{rules}
 use Rattle.rule_lists.proofs.rule.rule.Goals as goal
 
 pub returns : goal.returns

@@ -1,7 +1,6 @@
 -- By the tag.
 use borrow.Author.Tests.{eq-eqb, ne_eqb}
 use Rattle.rule_words.specs.Words.{date_taken}
-use borrow.Author.Rules.{rules}
 use Rattle.rule_words.proofs.dates.date_offset.Goals as goal
 
 pub returns-then-t-eq0 : goal.returns-then-t-eq0

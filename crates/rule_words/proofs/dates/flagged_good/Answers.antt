@@ -1,6 +1,5 @@
 -- The flag gives the limits.
 use Rattle.rule_words.specs.Words.{flagged_good}
-use borrow.Author.Rules.{rules}
 use Rattle.rule_words.proofs.dates.flagged_good.Goals as goal
 
 pub returns : goal.returns

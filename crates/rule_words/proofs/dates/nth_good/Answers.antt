@@ -1,7 +1,6 @@
 -- The year, the month and the weekday.
 use Rattle.rule_words.proofs.WordLaws.{three, two-fail, one-fails}
 use Rattle.rule_words.specs.Words.{nth_good}
-use borrow.Author.Rules.{rules}
 use Rattle.rule_words.proofs.dates.nth_good.Goals as goal
 
 pub returns-then-between : goal.returns-then-between

@@ -2,7 +2,6 @@
 use borrow.Author.Tests.{le-leb, lt-leb}
 use Rattle.bits.proofs.SignLaws.{same16}
 use Rattle.rule_words.specs.Words.{nth_taken}
-use borrow.Author.Rules.{rules}
 use Rattle.rule_words.proofs.dates.nth_taken.Goals as goal
 
 pub returns-then-magnitude-le366 : goal.returns-then-magnitude-le366

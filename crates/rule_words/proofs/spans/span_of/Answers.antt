@@ -1,6 +1,5 @@
 -- Two times.
 use Rattle.rule_words.specs.Words.{span_of}
-use borrow.Author.Rules.{rules}
 use Rattle.rule_words.proofs.spans.span_of.Goals as goal
 
 pub returns : goal.returns

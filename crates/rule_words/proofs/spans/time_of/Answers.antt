@@ -2,7 +2,6 @@
 use borrow.Author.Tests.{eq-eqb, ne_eqb}
 use Rattle.bits.proofs.SignLaws.{same16}
 use Rattle.rule_words.specs.Words.{time_of}
-use borrow.Author.Rules.{rules}
 use Rattle.rule_words.proofs.spans.time_of.Goals as goal
 
 pub returns-then-w-eq0 : goal.returns-then-w-eq0

@@ -2,7 +2,6 @@
 use native.Mathlib.Omega.{arith}
 use borrow.Author.Tests.{eq-eqb, ne_eqb, le-leb, lt-leb}
 use Rattle.rule_words.specs.Words.{time_width}
-use borrow.Author.Rules.{rules}
 use Rattle.rule_words.proofs.spans.time_width.Goals as goal
 
 pub returns-then-w-le2880 : goal.returns-then-w-le2880

@@ -1,7 +1,6 @@
 -- The offset.
 use Rattle.rule_words.proofs.WordLaws.{near}
 use Rattle.rule_words.specs.Words.{holiday_good}
-use borrow.Author.Rules.{rules}
 use Rattle.rule_words.proofs.weekdays.holiday_good.Goals as goal
 
 pub returns : goal.returns

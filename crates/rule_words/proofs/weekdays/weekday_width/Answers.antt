@@ -2,7 +2,6 @@
 use native.Mathlib.Omega.{arith}
 use borrow.Author.Tests.{eq-eqb, ne_eqb}
 use Rattle.rule_words.specs.Words.{weekday_width}
-use borrow.Author.Rules.{rules}
 use Rattle.rule_words.proofs.weekdays.weekday_width.Goals as goal
 
 pub returns-then-weekdays_good : goal.returns-then-weekdays_good

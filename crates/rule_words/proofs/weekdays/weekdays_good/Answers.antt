@@ -1,7 +1,6 @@
 -- Two weekdays and the offset.
 use Rattle.rule_words.proofs.WordLaws.{three, two-fail, one-fails, near}
 use Rattle.rule_words.specs.Words.{weekdays_good}
-use borrow.Author.Rules.{rules}
 use Rattle.rule_words.proofs.weekdays.weekdays_good.Goals as goal
 
 pub returns-then-between-2 : goal.returns-then-between-2

@@ -1,7 +1,6 @@
 -- Three fields.
 use Rattle.rule_words.proofs.WordLaws.{three, two-fail, one-fails}
 use Rattle.rule_words.specs.Words.{week_good}
-use borrow.Author.Rules.{rules}
 use Rattle.rule_words.proofs.years.week_good.Goals as goal
 
 pub returns-then-between-2 : goal.returns-then-between-2

@@ -1,7 +1,6 @@
 -- Its three fields.
 use mathlib.Core.Path.{refl}
 use Rattle.rule_words.specs.Words.{week_of}
-use borrow.Author.Rules.{rules}
 use Rattle.rule_words.proofs.years.week_of.Goals as goal
 
 pub returns : goal.returns
