@@ -7,19 +7,19 @@ ghost use Rattle.date_answers.specs.Answers.{length_answer, weekday_answer, week
 use calendar::Date;
 
 // A refusal has its number and a place, here always 7 and 0.
-#[derive(Drop)]
+#[derive(Clone, Copy)]
 pub enum Answer {
     Is(u32),
     Refused(u8, u32),
 }
 
-#[derive(Drop)]
+#[derive(Clone, Copy)]
 pub enum SignedAnswer {
     Is(i32),
     Refused(u8, u32),
 }
 
-#[derive(Drop)]
+#[derive(Clone, Copy)]
 pub enum DateAnswer {
     Is(Date),
     Refused(u8, u32),

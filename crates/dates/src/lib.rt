@@ -9,7 +9,7 @@ use calendar::Date;
 use days::Day;
 
 // A refusal has its number and a place, here always 7 and 0.
-#[derive(Drop)]
+#[derive(Clone, Copy)]
 pub enum DayAnswer {
     Is(Day),
     Refused(u8, u32),

@@ -5,7 +5,7 @@ ghost use Rattle.std.specs.Prelude.{◌≡◌, ◌+◌, ◌<◌, get_or};
 ghost use Rattle.framing.specs.Reading.{whole, frame_of, Half, Behind};
 
 // Whether the input is framed, and where its parts start: the rules at 0, each image and the rules at their length.
-#[derive(Drop)]
+#[derive(Clone, Copy)]
 pub struct Frame {
     pub ok: bool,
     pub events: usize,

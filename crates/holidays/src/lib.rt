@@ -13,19 +13,19 @@ use calendar::Date;
 use holiday_image::Years;
 
 // A refusal has its number and its place.
-#[derive(Drop)]
+#[derive(Clone, Copy)]
 pub enum Checked {
     Sound,
     Refused(u8, u32),
 }
 
-#[derive(Drop)]
+#[derive(Clone, Copy)]
 pub enum Count {
     Days(u32),
     Refused(u8, u32),
 }
 
-#[derive(Drop)]
+#[derive(Clone, Copy)]
 pub enum First {
     On(Date),
     Nothing,

@@ -12,7 +12,7 @@ use rules::Sheet;
 use time_filter::{EventCheck, Events};
 
 // A refusal's number and place with the sheet without rules, or 0, 0 and the sheet.
-#[derive(Drop)]
+#[derive(Clone, Copy)]
 pub struct Inputs {
     pub refusal: u8,
     pub place: usize,
@@ -20,7 +20,7 @@ pub struct Inputs {
 }
 
 // A refusal's number and place, or 0 and 0.
-#[derive(Drop)]
+#[derive(Clone, Copy)]
 pub struct Judged {
     pub number: u8,
     pub place: usize,

@@ -20,7 +20,7 @@ use time_filter::Events;
 
 // The next change: a refusal's number and place, 8 with the refused day's date; or the date and minute of the change, year 0 where there is none, and the days examined.
 #[repr(C)]
-#[derive(Drop)]
+#[derive(Clone, Copy)]
 pub struct KumolendiChange {
     pub refusal: u32,
     pub place: u32,

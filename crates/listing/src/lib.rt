@@ -81,7 +81,7 @@ pub fn list_in(words: &[u32], n: usize, room: &mut [u32]) -> usize
 }
 
 // A refusal's number and place with count 0, or 0, 0 and the entries written.
-#[derive(Drop)]
+#[derive(Clone, Copy)]
 pub struct Written {
     pub refusal: u8,
     pub place: usize,

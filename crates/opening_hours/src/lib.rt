@@ -20,7 +20,7 @@ const FIRST_DAY: u32 = 693962;
 const LAST_DAY: u32 = 3652426;
 
 // Refusal 8 with the rule's number and count 0, or 0, 0 and the ranges in the room.
-#[derive(Drop)]
+#[derive(Clone, Copy)]
 pub struct Evaluated {
     pub refusal: u8,
     pub place: u8,

@@ -11,21 +11,21 @@ use bits::Place;
 use rules::Sheet;
 
 // What stands in front of the rules.
-#[derive(Drop)]
+#[derive(Clone, Copy)]
 pub struct Header {
     pub edition: u32,
     pub count: usize,
 }
 
 // The sheet, and where it ends; a refused image has the sheet without rules.
-#[derive(Drop)]
+#[derive(Clone, Copy)]
 pub struct SheetRead {
     pub sheet: Sheet,
     pub end: Place,
 }
 
 // The number of rules, or a refusal's number and place.
-#[derive(Drop)]
+#[derive(Clone, Copy)]
 pub enum Verdict {
     Accepted(usize),
     Refused(u8, usize),

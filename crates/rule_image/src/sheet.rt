@@ -6,7 +6,7 @@ ghost use Rattle.rule_image.specs.Reading.{header_at};
 use crate::Header;
 use bits::{Num, Place};
 
-#[derive(Drop)]
+#[derive(Clone, Copy)]
 pub struct HeaderRead {
     pub item: Header,
     pub place: Place,

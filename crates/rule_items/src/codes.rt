@@ -6,7 +6,7 @@ ghost use Rattle.rule_items.specs.Codes.{operator_at};
 use bits::{Num, Place};
 use rules::Operator;
 
-#[derive(Drop)]
+#[derive(Clone, Copy)]
 pub struct OperatorRead {
     pub item: Operator,
     pub place: Place,

@@ -7,19 +7,19 @@ ghost use Rattle.rule_items.specs.Dates.{date_offset, months_form, year_months_f
 use bits::{Num, Place};
 use rules::{Date, DateOffset, Monthday, MonthdayItem};
 
-#[derive(Drop)]
+#[derive(Clone, Copy)]
 pub struct DateRead {
     pub item: Date,
     pub place: Place,
 }
 
-#[derive(Drop)]
+#[derive(Clone, Copy)]
 pub struct DateOffsetRead {
     pub item: DateOffset,
     pub place: Place,
 }
 
-#[derive(Drop)]
+#[derive(Clone, Copy)]
 pub struct MonthdayRead {
     pub item: MonthdayItem,
     pub place: Place,

@@ -6,13 +6,13 @@ ghost use Rattle.rule_items.specs.Spans.{fixed_time, variable_time, time_at, spa
 use bits::Place;
 use rules::{Time, TimeSpan};
 
-#[derive(Drop)]
+#[derive(Clone, Copy)]
 pub struct TimeRead {
     pub item: Time,
     pub place: Place,
 }
 
-#[derive(Drop)]
+#[derive(Clone, Copy)]
 pub struct SpanRead {
     pub item: TimeSpan,
     pub place: Place,

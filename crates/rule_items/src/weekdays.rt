@@ -6,7 +6,7 @@ ghost use Rattle.rule_items.specs.Weekdays.{fixed_weekdays, holiday_form, weekda
 use bits::Place;
 use rules::{WeekdayItem, WeekdayRange};
 
-#[derive(Drop)]
+#[derive(Clone, Copy)]
 pub struct WeekdayRead {
     pub item: WeekdayItem,
     pub place: Place,

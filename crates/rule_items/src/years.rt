@@ -6,13 +6,13 @@ ghost use Rattle.rule_items.specs.Years.{year_at, week_at};
 use bits::Place;
 use rules::{WeekItem, YearItem};
 
-#[derive(Drop)]
+#[derive(Clone, Copy)]
 pub struct YearRead {
     pub item: YearItem,
     pub place: Place,
 }
 
-#[derive(Drop)]
+#[derive(Clone, Copy)]
 pub struct WeekRead {
     pub item: WeekItem,
     pub place: Place,

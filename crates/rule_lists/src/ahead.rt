@@ -13,7 +13,7 @@ use rules::{
     Date, DateOffset, Monthday, MonthdayItem, Time, TimeSpan, WeekItem, WeekdayItem, YearItem,
 };
 
-#[derive(Drop)]
+#[derive(Clone, Copy)]
 pub struct YearsAhead {
     pub items: [YearItem; 8],
     pub place: Place,
@@ -56,7 +56,7 @@ pub fn years(image: &[u8], place: Place, count: usize) -> YearsAhead
     }
 }
 
-#[derive(Drop)]
+#[derive(Clone, Copy)]
 pub struct MonthdaysAhead {
     pub items: [MonthdayItem; 8],
     pub place: Place,
@@ -64,7 +64,7 @@ pub struct MonthdaysAhead {
 }
 
 // A pair of dates whose fields keep their limits, and its width; else the width is 0.
-#[derive(Drop)]
+#[derive(Clone, Copy)]
 pub struct DatesTaken {
     pub start: DateOffset,
     pub end: DateOffset,
@@ -152,7 +152,7 @@ pub fn monthdays(image: &[u8], place: Place, count: usize, edition: u32) -> Mont
     }
 }
 
-#[derive(Drop)]
+#[derive(Clone, Copy)]
 pub struct WeeksAhead {
     pub items: [WeekItem; 8],
     pub place: Place,
@@ -195,7 +195,7 @@ pub fn weeks(image: &[u8], place: Place, count: usize) -> WeeksAhead
     }
 }
 
-#[derive(Drop)]
+#[derive(Clone, Copy)]
 pub struct WeekdaysAhead {
     pub items: [WeekdayItem; 8],
     pub place: Place,
@@ -238,7 +238,7 @@ pub fn weekdays(image: &[u8], place: Place, count: usize) -> WeekdaysAhead
     }
 }
 
-#[derive(Drop)]
+#[derive(Clone, Copy)]
 pub struct SpansAhead {
     pub items: [TimeSpan; 8],
     pub place: Place,
@@ -246,7 +246,7 @@ pub struct SpansAhead {
 }
 
 // A span whose fields keep their limits, and its width; else the width is 0.
-#[derive(Drop)]
+#[derive(Clone, Copy)]
 pub struct SpanTaken {
     pub item: TimeSpan,
     pub width: usize,

@@ -8,14 +8,14 @@ pub mod rule;
 use rules::Operator;
 
 // What a rule does, before its counts.
-#[derive(Drop)]
+#[derive(Clone, Copy)]
 pub struct Head {
     pub operator: Operator,
     pub kind: u8,
     pub comment: u8,
 }
 
-#[derive(Drop)]
+#[derive(Clone, Copy)]
 pub struct Counts {
     pub years: usize,
     pub monthdays: usize,

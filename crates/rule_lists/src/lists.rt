@@ -6,31 +6,31 @@ ghost use Rattle.rule_lists.specs.RuleAt.{years_at, monthdays_at, weeks_at, week
 use bits::Place;
 use rules::{MonthdayItem, TimeSpan, WeekItem, WeekdayItem, YearItem};
 
-#[derive(Drop)]
+#[derive(Clone, Copy)]
 pub struct Years {
     pub items: [YearItem; 8],
     pub place: Place,
 }
 
-#[derive(Drop)]
+#[derive(Clone, Copy)]
 pub struct Monthdays {
     pub items: [MonthdayItem; 8],
     pub place: Place,
 }
 
-#[derive(Drop)]
+#[derive(Clone, Copy)]
 pub struct Weeks {
     pub items: [WeekItem; 8],
     pub place: Place,
 }
 
-#[derive(Drop)]
+#[derive(Clone, Copy)]
 pub struct Weekdays {
     pub items: [WeekdayItem; 8],
     pub place: Place,
 }
 
-#[derive(Drop)]
+#[derive(Clone, Copy)]
 pub struct Spans {
     pub items: [TimeSpan; 8],
     pub place: Place,

@@ -7,19 +7,19 @@ use crate::{Counts, Head, lists};
 use bits::Place;
 use rules::{MonthdayItem, Rule, TimeSpan, WeekItem, WeekdayItem, YearItem};
 
-#[derive(Drop)]
+#[derive(Clone, Copy)]
 pub struct HeadRead {
     pub item: Head,
     pub place: Place,
 }
 
-#[derive(Drop)]
+#[derive(Clone, Copy)]
 pub struct CountsRead {
     pub item: Counts,
     pub place: Place,
 }
 
-#[derive(Drop)]
+#[derive(Clone, Copy)]
 pub struct RuleRead {
     pub item: Rule,
     pub place: Place,

@@ -9,7 +9,7 @@ pub mod years;
 use rules::DateOffset;
 
 // A date with its offset, and its width; 0 where a field is not within its limits.
-#[derive(Drop)]
+#[derive(Clone, Copy)]
 pub struct DateTaken {
     pub item: DateOffset,
     pub width: usize,

@@ -101,7 +101,7 @@ pub struct Schedule {
 }
 
 // A refusal's number and place with the empty schedule, or 0, 0 and the result.
-#[derive(Drop)]
+#[derive(Clone, Copy)]
 pub struct Answer {
     pub refusal: u8,
     pub place: u8,

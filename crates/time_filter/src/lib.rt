@@ -249,7 +249,7 @@ fn cut(d: u16, interval: Interval) -> u32
 }
 
 // What a rule's spans leave of a day: a word for each span, start in the upper half, end in the lower.
-#[derive(Drop)]
+#[derive(Clone, Copy)]
 pub struct Cuts {
     pub count: usize,
     pub words: [u32; 8],

@@ -2,7 +2,6 @@
 use mathlib.Core.Path.{ap, sym}
 use Rattle.time_filter.specs.Refusal.{refusal_of}
 use Rattle.inputs.proofs.JudgedLaws.{events-next, slot-refused}
-use borrow.Author.Rules.{rules}
 use Rattle.inputs.proofs.check_days.Goals as goal
 
 pub returns-in-Accepted : goal.returns-in-Accepted

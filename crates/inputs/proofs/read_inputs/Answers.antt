@@ -1,6 +1,5 @@
 -- The rules first, then what stands beside them.
 use Rattle.inputs.proofs.JudgedLaws.{rules-refused, days-refused, all-accepted}
-use borrow.Author.Rules.{rules}
 use Rattle.inputs.proofs.read_inputs.Goals as goal
 
 pub returns-then-rest-eq0 : goal.returns-then-rest-eq0

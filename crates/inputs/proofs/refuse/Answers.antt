@@ -1,6 +1,5 @@
 -- Every rule of the sheet is the one that stands behind a count.
 use Rattle.inputs.proofs.JudgedLaws.{refuse-made}
-use borrow.Author.Rules.{rules}
 use Rattle.inputs.proofs.refuse.Goals as goal
 
 pub returns : goal.returns

@@ -1,6 +1,5 @@
 -- Each arm is one part of the test.
 use mathlib.Core.Path.{sym, ◌∙◌}
-use borrow.Author.Rules.{rules}
 use borrow.Author.Tests.{le-leb, lt-leb}
 use Rattle.next_change.specs.Answer.{can_ask}
 use Rattle.next_change.proofs.can_ask.Goals as goal

@@ -1,5 +1,4 @@
 -- The date's day, and the days from it on that lie before 10000-01-01.
-use borrow.Author.Rules.{rules}
 use Rattle.next_change.proofs.Starting.{date-fits, minute-fits, start-ready, start_is}
 use Rattle.next_change.proofs.change_from.Goals as goal
 

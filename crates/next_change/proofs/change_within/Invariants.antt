@@ -2,11 +2,8 @@
 use mathlib.Core.Path.{◌≡◌}
 use Prim.Native.Nat.{◌-◌}
 use lib.ListN.{length}
-use borrow.Author.Rules.{rules}
-use native.Mathlib.Omega.{arith}
 use Rattle.date_filter.specs.Filter.{images}
-use Rattle.next_change.proofs.Given.{in_order}
-use Rattle.next_change.proofs.Walking.{Walks, walk-begin, walk-ready, walk_before, walk-decides, walk-on, walk_end}
+use Rattle.next_change.proofs.Walking.{Walks}
 use Rattle.next_change.proofs.change_within.Given as goal
 
 abbrev pub invariant-loop-i : goal.invariant-loop-i

@@ -1,5 +1,4 @@
 -- The refusal's test picks the case of the decision.
-use borrow.Author.Rules.{rules}
 use borrow.Author.Tests.{eq-eqb, ne_eqb}
 use Rattle.next_change.proofs.decided.Goals as goal
 

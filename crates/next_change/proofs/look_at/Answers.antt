@@ -1,5 +1,4 @@
 -- A refusal is the day's; else the words show what the day tells, so that a look at them is one at the day.
-use borrow.Author.Rules.{rules}
 use native.Mathlib.Omega.{arith}
 use Rattle.next_change.proofs.Given.{look-refused, look-later, look-now}
 use Rattle.next_change.proofs.look_at.Goals as goal

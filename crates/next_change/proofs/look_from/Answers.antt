@@ -1,5 +1,4 @@
 -- The look holds what `first_other` gives.
-use borrow.Author.Rules.{rules}
 use Rattle.next_change.proofs.look_from.Goals as goal
 
 pub returns : goal.returns

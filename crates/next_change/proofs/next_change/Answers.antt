@@ -1,5 +1,4 @@
 -- The inputs' refusal comes first, then that of the question, then what the search finds.
-use borrow.Author.Rules.{rules}
 use Rattle.date_filter.specs.Filter.{Holidays, images}
 use Rattle.next_change.proofs.Starting.{inputs-refused, asked-refused, inputs-ready, asked-answered}
 use Rattle.next_change.proofs.next_change.Goals as goal

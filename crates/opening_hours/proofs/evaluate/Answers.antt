@@ -1,11 +1,9 @@
-use Rattle.opening_hours.proofs.Folding.{Folding, fold-begin, fold-ready, fold_on, fold-stop, fold_end}
-use Prim.Native.Nat.{◌-◌}
+use Rattle.opening_hours.proofs.Folding.{fold-begin, fold-ready, fold_on, fold-stop, fold_end}
 use mathlib.Core.Path.{◌≡◌}
 use lib.ListN.{length}
 use Rattle.date_lists.proofs.Loops.{length-mapped}
 use borrow.Author.Rules.{rules}
 use native.Mathlib.Omega.{arith}
-use Rattle.date_filter.specs.Filter.{images}
 use Rattle.opening_hours.proofs.evaluate.Goals as goal
 
 pub nothing_held-h-requires : goal.nothing_held-h-requires

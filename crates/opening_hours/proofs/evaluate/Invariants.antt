@@ -1,11 +1,7 @@
 -- What is held so far and the rules that are left give the whole; each turn leaves one rule less.
-use Rattle.opening_hours.proofs.Folding.{Folding, fold-begin, fold-ready, fold_on, fold-stop, fold_end}
+use Rattle.opening_hours.proofs.Folding.{Folding}
 use Prim.Native.Nat.{◌-◌}
-use mathlib.Core.Path.{◌≡◌}
 use lib.ListN.{length}
-use Rattle.date_lists.proofs.Loops.{length-mapped}
-use borrow.Author.Rules.{rules}
-use native.Mathlib.Omega.{arith}
 use Rattle.date_filter.specs.Filter.{images}
 use Rattle.opening_hours.proofs.evaluate.Given as goal
 

@@ -2,7 +2,6 @@
 use Rattle.opening_hours.proofs.Folding.{turn-made}
 use Rattle.date_filter.specs.Filter.{images}
 use Rattle.rule_day.specs.Parts.{spanned_on}
-use borrow.Author.Rules.{rules}
 use Rattle.opening_hours.proofs.rule_turn.Goals as goal
 
 pub returns : goal.returns

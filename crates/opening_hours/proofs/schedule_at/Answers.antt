@@ -1,7 +1,6 @@
 -- A day that can show something has its rules evaluated, with the day before it; any other shows nothing.
 use Rattle.opening_hours.proofs.Folding.{day-ready, rules-ready, this-day, other-day}
 use Rattle.date_filter.specs.Filter.{images}
-use borrow.Author.Rules.{rules}
 use Rattle.opening_hours.proofs.schedule_at.Goals as goal
 
 pub can_show-requires : goal.can_show-requires
