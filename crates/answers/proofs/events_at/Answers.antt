@@ -1,5 +1,4 @@
 -- Each number is the one that stands there.
-use borrow.Author.Rules.{rules}
 use Rattle.answers.proofs.events_at.Goals as goal
 
 pub returns : goal.returns

@@ -1,6 +1,5 @@
 -- Each part is lent, and the numbers are read where the places say.
 use Rattle.answers.proofs.Made.{listed-made}
-use borrow.Author.Rules.{rules}
 use Rattle.answers.proofs.list_framed.Goals as goal
 
 pub returns : goal.returns

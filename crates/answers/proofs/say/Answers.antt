@@ -4,7 +4,6 @@ use native.Mathlib.Omega.{arith}
 use lib.ListN.{length-take}
 use lib.Seq.{length-take-le}
 use Rattle.answers.proofs.Made.{lines-made, refusal-made}
-use borrow.Author.Rules.{rules}
 use Rattle.answers.proofs.say.Goals as goal
 
 pub slice_bounds-put_lines-end : goal.slice_bounds-put_lines-end

@@ -1,7 +1,6 @@
 -- The inputs first, then the date, then the day.
 use mathlib.Core.Path.{sym, ◌∙◌}
 use Rattle.day_listing.proofs.ListLaws.{date-valid, ready, dated, no-date, inputs-refused}
-use borrow.Author.Rules.{rules}
 use Rattle.day_listing.proofs.list_day.Goals as goal
 
 pub day_on-day-requires : goal.day_on-day-requires

@@ -1,6 +1,5 @@
 -- The ranges stand in the room; they are listed unless the day is refused.
 use Rattle.day_listing.proofs.ListLaws.{day-listed, day-refused}
-use borrow.Author.Rules.{rules}
 use Rattle.day_listing.proofs.list_ranges.Goals as goal
 
 pub returns-then-e-eq0 : goal.returns-then-e-eq0

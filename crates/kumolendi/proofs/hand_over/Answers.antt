@@ -1,6 +1,5 @@
 -- Each field is the change's; the place fits 32 bits.
 use mathlib.Core.Path.{refl}
-use borrow.Author.Rules.{rules}
 use Rattle.kumolendi.specs.Packed.{handed_over}
 use Rattle.kumolendi.proofs.hand_over.Goals as goal
 

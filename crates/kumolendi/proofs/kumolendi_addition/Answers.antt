@@ -3,7 +3,6 @@ use Rattle.kumolendi.proofs.PackLaws.{stored}
 use Rattle.kumolendi.proofs.SizeLaws.{sum-small}
 use lib.ListN.{length}
 use Rattle.word_schedules.specs.Stored.{offered}
-use borrow.Author.Rules.{rules}
 use Rattle.kumolendi.proofs.kumolendi_addition.Goals as goal
 
 pub pack_written-requires : goal.pack_written-requires

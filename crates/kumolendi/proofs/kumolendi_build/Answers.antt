@@ -2,7 +2,6 @@
 use Rattle.kumolendi.proofs.PackLaws.{stored}
 use Rattle.kumolendi.proofs.SizeLaws.{build-small}
 use lib.ListN.{length}
-use borrow.Author.Rules.{rules}
 use Rattle.kumolendi.proofs.kumolendi_build.Goals as goal
 
 pub pack_written-requires : goal.pack_written-requires

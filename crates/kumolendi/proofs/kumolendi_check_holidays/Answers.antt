@@ -1,6 +1,5 @@
 -- The check of an image by itself, packed.
 use Rattle.kumolendi.proofs.PackLaws.{check_sound, check-refused}
-use borrow.Author.Rules.{rules}
 use Rattle.kumolendi.proofs.kumolendi_check_holidays.Goals as goal
 
 pub returns-in-Sound : goal.returns-in-Sound

@@ -1,7 +1,6 @@
 -- The verdict, packed.
 use Rattle.kumolendi.proofs.PackLaws.{rules-count, rules-refused}
 use Rattle.kumolendi.proofs.SizeLaws.{rules-few, rules-near}
-use borrow.Author.Rules.{rules}
 use Rattle.kumolendi.proofs.kumolendi_check_rules.Goals as goal
 
 pub pack-requires : goal.pack-requires

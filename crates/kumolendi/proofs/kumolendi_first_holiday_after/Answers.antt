@@ -1,7 +1,6 @@
 -- The date found, packed.
 use Rattle.kumolendi.proofs.PackLaws.{first_on, first-none, first-refused}
 use Rattle.kumolendi.proofs.SizeLaws.{first_small}
-use borrow.Author.Rules.{rules}
 use Rattle.kumolendi.proofs.kumolendi_first_holiday_after.Goals as goal
 
 pub date_number-requires : goal.date_number-requires

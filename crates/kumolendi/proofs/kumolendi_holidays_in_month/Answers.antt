@@ -1,6 +1,5 @@
 -- The count, packed.
 use Rattle.kumolendi.proofs.PackLaws.{count-days, count-refused}
-use borrow.Author.Rules.{rules}
 use Rattle.kumolendi.proofs.kumolendi_holidays_in_month.Goals as goal
 
 pub returns-in-Days : goal.returns-in-Days

@@ -1,7 +1,6 @@
 -- What the day's listing answers, packed.
 use Rattle.kumolendi.proofs.PackLaws.{day-listed}
 use Rattle.kumolendi.proofs.DaySizes.{answer-small}
-use borrow.Author.Rules.{rules}
 use Rattle.kumolendi.proofs.kumolendi_list_day.Goals as goal
 
 pub pack_written-requires : goal.pack_written-requires

@@ -3,7 +3,6 @@ use Rattle.kumolendi.proofs.PackLaws.{listed}
 use Rattle.kumolendi.proofs.SizeLaws.{listed_small}
 use lib.ListN.{length}
 use Rattle.word_schedules.specs.Stored.{offered}
-use borrow.Author.Rules.{rules}
 use Rattle.kumolendi.proofs.kumolendi_listing.Goals as goal
 
 pub pack_written-requires : goal.pack_written-requires

@@ -2,7 +2,6 @@
 use mathlib.Core.Path.{ap, ◌∙◌}
 use Rattle.kumolendi.specs.Packed.{handed_over}
 use Rattle.kumolendi.proofs.ChangeSizes.{change-small}
-use borrow.Author.Rules.{rules}
 use Rattle.kumolendi.proofs.kumolendi_next_change.Goals as goal
 
 pub hand_over-requires : goal.hand_over-requires

@@ -1,6 +1,5 @@
 -- The count where nothing is refused, else the place.
 use Rattle.kumolendi.proofs.PackLaws.{written_count, written-place}
-use borrow.Author.Rules.{rules}
 use Rattle.kumolendi.proofs.pack_written.Goals as goal
 
 pub returns-then-w-eq0 : goal.returns-then-w-eq0
