@@ -4,27 +4,15 @@ use borrow.Author.Tests.{eq-eqb, ne_eqb}
 use Rattle.rendering.specs.Text.{kind_text}
 use Rattle.rendering.proofs.put_kind.Goals as goal
 
--- TODO no goal
--- slice-aggregate-put-bytes : tie.Need-slice-aggregate-put-bytes
--- slice-aggregate-put-bytes c = search rules
-
 pub returns-then-kind-eq0 : goal.returns-then-kind-eq0
 unfolding kind_text
 returns-then-kind-eq0 c = rw (eq-eqb c.args.kind 0 (omega arith)) c.put_bytes.ensures
-
--- TODO no goal
--- slice-aggregate-put-bytes-2 : tie.Need-slice-aggregate-put-bytes-2
--- slice-aggregate-put-bytes-2 c = search rules
 
 pub returns-then-kind-eq1 : goal.returns-then-kind-eq1
 unfolding kind_text
 returns-then-kind-eq1 c =
     let k = c.args.kind in
     rw (ne_eqb k 0 (λ h. omega arith), eq-eqb k 1 (omega arith)) c.put_bytes-then-kind-eq1.ensures
-
--- TODO no goal
--- slice-aggregate-put-bytes-3 : tie.Need-slice-aggregate-put-bytes-3
--- slice-aggregate-put-bytes-3 c = search rules
 
 pub returns : goal.returns
 unfolding kind_text

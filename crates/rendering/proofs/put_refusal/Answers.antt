@@ -5,16 +5,8 @@ use Rattle.rendering.proofs.Stores.{then}
 use Rattle.rendering.proofs.Lines.{comment-short, number_short}
 use Rattle.rendering.proofs.put_refusal.Goals as goal
 
--- TODO no goal
--- slice-aggregate-put-bytes : tie.Need-slice-aggregate-put-bytes
--- slice-aggregate-put-bytes c = search rules
-
 pub put_decimal-b-requires : goal.put_decimal-b-requires
 put_decimal-b-requires c = omega (arith, comment-short c.args.number (omega arith))
-
--- TODO no goal
--- slice-aggregate-put-bytes-2 : tie.Need-slice-aggregate-put-bytes-2
--- slice-aggregate-put-bytes-2 c = search rules
 
 pub put_bytes-c-requires : goal.put_bytes-c-requires
 put_bytes-c-requires c = omega (arith, comment-short c.args.number (omega arith))
