@@ -1,4 +1,4 @@
-// The library's functions for C and Rust. An answer is the refusal's number, 0 for none, in the upper half, and its place or the value in the lower.
+// The library's functions, as C and Rust call them (the exports are `kumolendi_c`'s). An answer is the refusal's number, 0 for none, in the upper half, and its place or the value in the lower.
 #![tactic(auto)]
 
 ghost use Rattle.std.specs.Prelude.{◌≡◌, ◌<◌};
@@ -71,8 +71,7 @@ fn hand_over(c: Change) -> KumolendiChange
 }
 
 // Event times in minutes, 65535 for none.
-#[unsafe(no_mangle)]
-pub extern "C" fn kumolendi_list_day(
+pub fn kumolendi_list_day(
     rules: &[u8],
     dawn: u16,
     sunrise: u16,
@@ -109,8 +108,7 @@ pub extern "C" fn kumolendi_list_day(
     pack_written(w)
 }
 
-#[unsafe(no_mangle)]
-pub extern "C" fn kumolendi_next_change(
+pub fn kumolendi_next_change(
     rules: &[u8],
     dawn: u16,
     sunrise: u16,
@@ -149,8 +147,7 @@ pub extern "C" fn kumolendi_next_change(
     hand_over(c)
 }
 
-#[unsafe(no_mangle)]
-pub extern "C" fn kumolendi_check_rules(rules: &[u8]) -> u64
+pub fn kumolendi_check_rules(rules: &[u8]) -> u64
     ensures { result ≡ packed_rules (verdict_on rules.now) }
 {
     let verdict = rule_image::check_sheet(rules);
@@ -160,8 +157,7 @@ pub extern "C" fn kumolendi_check_rules(rules: &[u8]) -> u64
     }
 }
 
-#[unsafe(no_mangle)]
-pub extern "C" fn kumolendi_check_holidays(image: &[u8]) -> u64
+pub fn kumolendi_check_holidays(image: &[u8]) -> u64
     ensures { result ≡ packed_check (check_answer image.now) }
 {
     let checked = holidays::check(image);
@@ -171,8 +167,7 @@ pub extern "C" fn kumolendi_check_holidays(image: &[u8]) -> u64
     }
 }
 
-#[unsafe(no_mangle)]
-pub extern "C" fn kumolendi_holidays_in_month(image: &[u8], year: u32, month: u32) -> u64
+pub fn kumolendi_holidays_in_month(image: &[u8], year: u32, month: u32) -> u64
     ensures { result ≡ packed_count (count_answer image.now year month) }
 {
     let count = holidays::count_in_month(image, year, month);
@@ -182,8 +177,7 @@ pub extern "C" fn kumolendi_holidays_in_month(image: &[u8], year: u32, month: u3
     }
 }
 
-#[unsafe(no_mangle)]
-pub extern "C" fn kumolendi_first_holiday_after(
+pub fn kumolendi_first_holiday_after(
     image: &[u8],
     year: u32,
     month: u32,
@@ -201,24 +195,21 @@ pub extern "C" fn kumolendi_first_holiday_after(
 }
 
 // Given ranges: start in the upper half of a word, end in the lower.
-#[unsafe(no_mangle)]
-pub extern "C" fn kumolendi_build(given: &[u32], kind: u8, comment: u8, out: &mut [u32]) -> u64
+pub fn kumolendi_build(given: &[u32], kind: u8, comment: u8, out: &mut [u32]) -> u64
     ensures { Stored (build_of given.now kind comment) out.old out.new result }
 {
     let w = word_schedules::build(given, kind, comment, &mut *out);
     pack_written(w)
 }
 
-#[unsafe(no_mangle)]
-pub extern "C" fn kumolendi_addition(a: &[u32], b: &[u32], out: &mut [u32]) -> u64
+pub fn kumolendi_addition(a: &[u32], b: &[u32], out: &mut [u32]) -> u64
     ensures { Stored (addition_of (offered a.now) (offered b.now)) out.old out.new result }
 {
     let w = word_schedules::addition(a, b, &mut *out);
     pack_written(w)
 }
 
-#[unsafe(no_mangle)]
-pub extern "C" fn kumolendi_listing(words: &[u32], out: &mut [u32]) -> u64
+pub fn kumolendi_listing(words: &[u32], out: &mut [u32]) -> u64
     ensures { Listed (offered words.now) out.old out.new result }
 {
     let w = word_schedules::write_listing(words, &mut *out);

@@ -86,7 +86,8 @@ fn next_byte<R: Read>(input: &mut R, block: &mut [u8], t: Tally) -> io::Result<T
     Ok(r)
 }
 
-// Reads a line, without its end; what is longer than the room is cut there. Where a read fails, the line is lost.
+// Reads a line, without its end; what is longer than the room is cut there. Where a read fails, the line is lost,
+// and neither the block nor `t` serves for another call.
 pub fn next_line<R: Read>(
     input: &mut R,
     block: &mut [u8],
@@ -228,7 +229,7 @@ pub fn word(bytes: &[u8], at: usize) -> u32
     a * 16777216 + b * 65536 + c * 256 + d
 }
 
-// Writes the count of vectors and of differences, and gives back the second.
+// Writes the count of vectors and of differences, and gives back the second. Only the write can fail.
 pub fn report(rt: &impl Print, t: Tally) -> io::Result<u32>
     ensures { IfOk result (λ n. n ≡ t.differences) }
 {
@@ -236,4 +237,20 @@ pub fn report(rt: &impl Print, t: Tally) -> io::Result<u32>
     let differences = t.differences;
     println!(rt; "vectors {vectors} differences {differences}")?;
     Ok(differences)
+}
+
+#[cfg(test)]
+mod tests {
+    use super::*;
+
+    // The replays find no difference, so that this shows one being written.
+    #[test]
+    fn writes_a_difference(rt: HostRuntime) -> io::Result<()> {
+        let t = judged(&rt, start(), false)?;
+        assert!(rt; t.vectors == 1);
+        assert!(rt; t.differences == 1);
+        let differences = report(&rt, t)?;
+        assert!(rt; differences == 1);
+        Ok(())
+    }
 }
