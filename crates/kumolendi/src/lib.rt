@@ -177,12 +177,7 @@ pub fn kumolendi_holidays_in_month(image: &[u8], year: u32, month: u32) -> u64
     }
 }
 
-pub fn kumolendi_first_holiday_after(
-    image: &[u8],
-    year: u32,
-    month: u32,
-    day: u32,
-) -> u64
+pub fn kumolendi_first_holiday_after(image: &[u8], year: u32, month: u32, day: u32) -> u64
     ensures { result ≡ packed_first (first_answer image.now (record { year = year; month = month; day = day })) }
 {
     let date = Date { year, month, day };
