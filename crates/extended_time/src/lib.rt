@@ -41,6 +41,7 @@ impl ExtendedTime {
         Self::from_mins_from_midnight(60 * (hour as u16) + (minute as u16))
     }
 
+    #[tactic(auto, using(crate::proofs::Sums::early, crate::proofs::Sums::late))]
     pub fn from_mins_from_midnight(minute: u16) -> Moment
         ensures { result ≡ moment_of minute }
     {

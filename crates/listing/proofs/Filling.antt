@@ -132,3 +132,6 @@ module _ (xs : List ℕ) (n : ℕ) (zs ys : List ℕ) (m i lo : ℕ) (st : Holes
           few = st.fits;
           list = l;
         }
+
+-- the end of the day, with a hole left or without
+pub ruleset closing = (last-space, put_last, no_last)

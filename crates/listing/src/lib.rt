@@ -17,6 +17,7 @@ fn hole(a: u32, b: u32) -> u32
 }
 
 // The first n ranges, with a closed one in each hole.
+#[tactic(auto, using(crate::proofs::Filling::closing))]
 fn fill(words: &[u32], n: usize, room: &mut [u32]) -> usize
     requires { ListReady words.now n × (129 ≤ length room.old) }
     ensures { Entries (holes_l 0 (ranges (take n words.now))) room.new 129 result }

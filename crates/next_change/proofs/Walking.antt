@@ -70,3 +70,6 @@ module _ (h : Holidays) (row : Events) (sheet : Sheet) (t count : ℕ) (d day : 
   -- all the days are passed
   pub walk_end : count ≤ i → (r : Change) → r ≡ change_of (never count) → r ≡ change_of (next_change (shop_day h row sheet) d.number t count)
   walk_end k r e = e ∙ ap change_of (rest_end (shop_day h row sheet) d.number t count since i st.rests k)
+
+-- a day that is not calm decides
+pub ruleset deciding = (walk-decides)

@@ -153,6 +153,7 @@ fn decided(d: Day, x: Look, examined: u32) -> Change
 }
 
 // The days from d on, the first behind the minute, until one decides.
+#[tactic(auto, using(crate::proofs::Walking::deciding))]
 fn change_within(
     public: &[u8],
     public_unknown: &[u8],

@@ -49,6 +49,9 @@ valid-some s b h e = rw (le-leb s.len 64 h) e
 pub valid-none : (s : Schedule) → 64 < s.len → false ≡ valid s
 valid-none s h = rw (lt-leb s.len 64 h)
 
+-- both ways of the test of the count
+pub ruleset validity = (valid-some, valid-none)
+
 pub valid-in : (s : Schedule) (b : Bool) → b ≡ valid s → b ≡ true → (s.len ≤ 64) × InOrder 0 (view s) 1440
 valid-in s b e t =
     let p = both_true (leb s.len 64) (order_b 0 (view s)) (sym e ∙ t) in

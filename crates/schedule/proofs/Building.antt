@@ -118,3 +118,6 @@ module _ (gs : List ℕ) (m kind comment : ℕ) (xs : List ℕ) (state : ℕ) (y
 
   pub build-end : j ≤ 0 → Leaves (build_r kind comment (spans (take m gs))) ys m k
   build-end h = let e : j ≡ 0 = omega arith in record { few = omega (arith, count); list = rw e at st.list }
+
+-- a range that ends late stops the test
+pub ruleset late_end = (ends-stop)

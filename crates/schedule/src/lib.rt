@@ -138,6 +138,7 @@ pub fn copy_out(room: &[u32], n: usize) -> Schedule
     Schedule { len: n, words: out }
 }
 
+#[tactic(auto, using(crate::proofs::Answers::validity))]
 pub fn is_valid(s: Schedule) -> bool
     ensures { result ≡ valid s }
 {
@@ -186,6 +187,7 @@ pub fn addition(a: Schedule, b: Schedule) -> Answer
 }
 
 // Whether no span ends past 24:00.
+#[tactic(auto, using(crate::proofs::Building::late_end))]
 fn ends_fit(given: &[u32]) -> bool
     ensures { result ≡ ends_b (spans given.now) }
 {

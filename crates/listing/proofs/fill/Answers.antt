@@ -1,4 +1,4 @@
-use Rattle.listing.proofs.Filling.{holes-begin, next, put-hole, put-range, last-space, put_last, no_last}
+use Rattle.listing.proofs.Filling.{holes-begin, next, put-hole, put-range}
 use native.Mathlib.Omega.{arith}
 use Rattle.listing.proofs.fill.Goals as goal
 
@@ -38,23 +38,5 @@ loop-i-smaller c = let f = next _ _ _ _ _ _ _ c.loop-i.invariant c.loop-i-test.t
 pub loop-i-preserved : goal.loop-i-preserved
 loop-i-preserved c = put-range _ _ _ _ _ _ _ c.loop-i.invariant c.loop-i-test.true _ c.start-s.ensures.0 c.if-lo-s.false _ c.end-e.ensures.0
 
-pub hole-h-requires-then-lo-lt1440 : goal.hole-h-requires-then-lo-lt1440
-hole-h-requires-then-lo-lt1440 c = (omega (arith, c.if-lo-lt1440.true), omega arith)
-
-pub offset_bounds-room-m-then-lo-lt1440 : goal.offset_bounds-room-m-then-lo-lt1440
-offset_bounds-room-m-then-lo-lt1440 c = let f = last-space _ _ _ _ _ _ _ c.loop-i.invariant c.loop-i-test.false c.if-lo-lt1440.true in omega arith
-
-pub bounds-room-m-then-lo-lt1440 : goal.bounds-room-m-then-lo-lt1440
-bounds-room-m-then-lo-lt1440 c = let f = last-space _ _ _ _ _ _ _ c.loop-i.invariant c.loop-i-test.false c.if-lo-lt1440.true in omega arith
-
-pub overflow_add-result : goal.overflow_add-result
-overflow_add-result c = let f = last-space _ _ _ _ _ _ _ c.loop-i.invariant c.loop-i-test.false c.if-lo-lt1440.true in omega arith
-
-pub returns-then-lo-lt1440 : goal.returns-then-lo-lt1440
-returns-then-lo-lt1440 c = put_last _ _ _ _ _ _ _ c.loop-i.invariant c.loop-i-test.false c.if-lo-lt1440.true _ c.hole-h-then-lo-lt1440.ensures
-
 pub shape_of-room : goal.shape_of-room
 shape_of-room c = c.loop-i.invariant.size
-
-pub returns : goal.returns
-returns c = no_last _ _ _ _ _ _ _ c.loop-i.invariant c.loop-i-test.false c.if-lo-lt1440.false

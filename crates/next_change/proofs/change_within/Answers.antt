@@ -1,7 +1,7 @@
 use borrow.Author.Rules.{rules}
 use native.Mathlib.Omega.{arith}
 use Rattle.next_change.proofs.Given.{in_order}
-use Rattle.next_change.proofs.Walking.{walk-begin, walk-ready, walk_before, walk-decides, walk-on, walk_end}
+use Rattle.next_change.proofs.Walking.{walk-begin, walk-ready, walk_before, walk-on, walk_end}
 use Rattle.next_change.proofs.change_within.Goals as goal
 
 pub loop-i-init : goal.loop-i-init
@@ -19,10 +19,6 @@ look_at-x-requires c = (in_order _ _ _ c.schedule_at-e.ensures (search rules), c
 pub decided-requires : goal.decided-requires
 decided-requires c = c.loop-i.invariant.1.is
 
-pub returns-then-x-lt1440 : goal.returns-then-x-lt1440
-returns-then-x-lt1440 c =
-    walk-decides _ _ _ _ _ _ _ _ _ c.loop-i.invariant.1 c.loop-i-test.true _ _ c.schedule_at-e.ensures _ c.look_at-x.ensures c.if-x-lt1440.true _ c.decided.ensures
-
 pub day_after-day-requires : goal.day_after-day-requires
 day_after-day-requires c =
     walk_before _ _ _ _ _ _ _ _ _ c.loop-i.invariant.1 c.loop-i-test.true
@@ -33,7 +29,7 @@ loop-i-smaller c =
 
 pub loop-i-preserved : goal.loop-i-preserved
 loop-i-preserved c =
-    (search rules, walk-on _ _ _ _ _ _ _ _ _ c.loop-i.invariant.1 c.loop-i-test.true _ _ c.schedule_at-e.ensures _ c.look_at-x.ensures c.if-x-lt1440.false _ c.day_after-day.ensures)
+    (search rules, walk-on _ _ _ _ _ _ _ _ _ c.loop-i.invariant.1 c.loop-i-test.true _ _ c.schedule_at-e.ensures _ c.look_at-x.ensures (omega arith) _ c.day_after-day.ensures)
 
 pub returns : goal.returns
 returns c = walk_end _ _ _ _ _ _ _ _ _ c.loop-i.invariant.1 c.loop-i-test.false _ c.no_change.ensures
