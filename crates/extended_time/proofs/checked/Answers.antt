@@ -2,6 +2,7 @@
 use mathlib.Core.Path.{◌≡◌, ap, sym, ◌∙◌, subst}
 use mathlib.Core.Bool.{true, false}
 use native.Mathlib.Omega.{arith}
+use borrow.Author.Rules.{rules}
 use lib.Dec.{T}
 use lib.IntN.{ℤ, pos, nat_abs}
 use lib.Signed.{lt_z, non_neg}
@@ -19,7 +20,7 @@ same c = to_z-of_z {w = w32} c.ranges.minutes
 within : (c : Else-minutes-gt2880) → Inside c.args.minutes
 within c =
     let s = same c.before.before in
-    inside _ (subst (λ (z : ℤ). lt_z z (pos 0) ≡ false) s c.if-minutes-lt0.false) (subst (λ (z : ℤ). lt_z (pos 2880) z ≡ false) s c.if-minutes-gt2880.false)
+    inside _ (subst (λ (z : ℤ). lt_z z (pos 0) ≡ false) s (search rules)) (subst (λ (z : ℤ). lt_z (pos 2880) z ≡ false) s (search rules))
 
 pub returns-then-minutes-lt0 : goal.returns-then-minutes-lt0
 returns-then-minutes-lt0 c = under _ (subst (λ (z : ℤ). lt_z z (pos 0) ≡ true) (same (goal.at.returns-then-minutes-lt0 c).Start) c.if-minutes-lt0.true)
