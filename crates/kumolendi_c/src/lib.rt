@@ -1,15 +1,15 @@
 // The exports for C and Rust: each is the function of `kumolendi` of its name.
 #![tactic(auto)]
 
-ghost use Rattle.std.specs.Prelude.{◌≡◌, ◌<◌};
+ghost use Rattle.std.specs.Prelude.{◌≡◌};
 ghost use Rattle.rule_image.specs.Reading.{verdict_on};
 ghost use Rattle.holidays.specs.Answers.{check_answer, count_answer, first_answer};
 ghost use Rattle.schedule.specs.Schedules.{build_of, addition_of};
 ghost use Rattle.date_filter.specs.Filter.{images};
 ghost use Rattle.next_change.specs.Answer.{change_answer};
 ghost use Rattle.word_schedules.specs.Stored.{offered};
-ghost use Rattle.kumolendi.specs.Packed.{packed, date_number, packed_rules, packed_check, packed_count, packed_first, packed_written, handed_over};
-ghost use Rattle.kumolendi.specs.Answers.{Small, Stored, Listed, DayListed};
+ghost use Rattle.kumolendi.specs.Packed.{packed_rules, packed_check, packed_count, packed_first, handed_over};
+ghost use Rattle.kumolendi.specs.Answers.{Stored, Listed, DayListed};
 
 use kumolendi::KumolendiChange;
 
