@@ -59,8 +59,8 @@ macro_rules! build {
     };
 }
 
-build!("before_kumolendi", "before_calls", before_day_number, before_date_of, before_list_day, before_next_change);
-build!("after_kumolendi", "after_calls", after_day_number, after_date_of, after_list_day, after_next_change);
+build!("before_kumolendi_c", "before_calls", before_day_number, before_date_of, before_list_day, before_next_change);
+build!("after_kumolendi_c", "after_calls", after_day_number, after_date_of, after_list_day, after_next_change);
 
 #[link(name = "floor", kind = "static")]
 unsafe extern "C" {
