@@ -10,12 +10,13 @@ use lib.IntN.{pos, nat_abs}
 use lib.ListN.{length}
 use lib.Pow.{pow-add, high, low, shl_lt, shl-shr, shr-shr}
 use Rattle.bits.specs.Bits.{bits, field_at, ahead_of, part}
-use Rattle.bits.specs.Place.{within, at_most, number_at, signed_at}
+use Rattle.refusals.specs.declared.Cause.{Cause}
+use Rattle.refusals.specs.declared.Cause.TheVariants.{PastLimits}
+use Rattle.bits.specs.Place.{At, within, at_most, number_at, signed_at}
 use Rattle.bits.specs.Signed.{signed_of}
-use Rattle.bits.specs.declared.Field.TheVariants.{Value}
-use Rattle.bits.specs.declared.Place.TheVariants.{At}
+use Rattle.std.specs.Prelude.{Some}
 use Rattle.bits.proofs.BitsLaws.{bits-lt, bits-add, middle, value}
-use Rattle.bits.proofs.ReadLaws.{within_in, number-right, read_right}
+use Rattle.bits.proofs.ReadLaws.{number-is, read_right}
 
 -- moved up by k, the first k bits are lost
 shifted : (s : List ℕ) (o k d : ℕ) → (bits s o (k + d) * 2 ^ k) % 2 ^ (d + k) ≡ bits s (o + k) d * 2 ^ k
@@ -70,16 +71,16 @@ module _ (s : List ℕ) (at w : ℕ) (x : Front s at w) (o f d : ℕ) (h : o + f
       ∙ middle s at o f (d - 7)
       ∙ ap (λ (k : ℕ). bits s k f) (sym e)
 
-  field_is : field_at s q f ≡ Value (part w d f)
-  field_is = value s q f (omega (arith, x.whole)) ∙ ap Value (sym part-is)
+  field_is : field_at s q f ≡ Some (part w d f)
+  field_is = value s q f (omega (arith, x.whole)) ∙ ap Some (sym part-is)
 
   -- a part within its limits is the number read there
-  pub number-ahead : (lo hi ref : ℕ) → within lo hi (part w d f) ≡ true → record { item = part w d f; place = At (q + f) } ≡ number_at s (At q) f lo hi ref
-  number-ahead lo hi ref k = let b = within_in lo hi (part w d f) k in (number-right s q f lo hi ref (part w d f) field_is b.0 b.1).is
+  pub number-ahead : (lo hi : ℕ) (cause : Cause) → within lo hi (part w d f) ≡ true → record { item = part w d f; place = At (q + f) } ≡ number_at s (At q) f lo hi cause
+  number-ahead lo hi cause k = number-is s q f lo hi cause (part w d f) field_is k
 
   pub signed-ahead : (limit : ℕ) → nat_abs (signed_of (2 ^ f) (part w d f)) ≤ limit
       → record { item = signed_of (2 ^ f) (part w d f); place = At (q + f) } ≡ signed_at s (At q) f limit
   unfolding signed_at
   signed-ahead limit k =
-      read_right (pos 0) (λ (v : ℕ). at_most limit (signed_of (2 ^ f) v)) (signed_of (2 ^ f)) 3 f s q (part w d f) field_is
+      read_right (pos 0) (λ (v : ℕ). at_most limit (signed_of (2 ^ f) v)) (signed_of (2 ^ f)) PastLimits f s q (part w d f) field_is
       (le-leb (nat_abs (signed_of (2 ^ f) (part w d f))) limit k)

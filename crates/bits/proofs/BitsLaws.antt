@@ -1,7 +1,7 @@
 -- Laws of a number made of bits, each over every width: what comes in front and behind is a sum, so whole bytes give a field by a quotient and a remainder.
 use mathlib.Core.Path.{◌≡◌, ap, sym, ◌∙◌}
 use mathlib.Core.Bool.{Bool, true, false, cond}
-use mathlib.Core.List.{List}
+use mathlib.Core.List.{List, [], ◌∷◌}
 use Prim.Native.Nat.{ℕ, zero, suc, ◌+◌, ◌-◌, ◌*◌, ◌/◌, ◌%◌, ◌^◌, ◌<◌, ◌≤◌}
 use native.Mathlib.Nat.{pow-suc, add-suc, add-zero, mul_assoc, add_assoc, add-mul, one-mul, mod-lt}
 use native.Mathlib.Numerals.{add-one}
@@ -10,7 +10,8 @@ use lib.Dec.{leb}
 use lib.ListN.{length, get_or}
 use lib.Pow.{pow_mono, pow-add, pow_pos, high, low, shl_exact, shr-shr}
 use borrow.Author.Tests.{le-leb, lt-leb}
-use Rattle.bits.specs.declared.Field.TheVariants.{Value, Past}
+use Rattle.std.specs.Prelude.{Some, None}
+use Rattle.std.specs.Int.{from_be_bytes, w64}
 use Rattle.bits.specs.Bits.{bits, bit_at, field_at}
 
 pub bits-more : (s : List ℕ) (at k : ℕ) → bits s at (k + 1) ≡ bits s at k * 2 + bit_at s (at + k)
@@ -56,25 +57,19 @@ byte_next s i k l =
     let g : 8 * i + 8 * k ≡ 8 * (i + k) = omega arith in
     rw (bits-add s (8 * i) (8 * k) 8, g, byte-is s (i + k) l)
 
-pub byte_more : (s : List ℕ) (f i : ℕ) → f ≤ i → get_or s i 0 < 256 → bits s (8 * f) (8 * (i - f)) * 256 + get_or s i 0 ≡ bits s (8 * f) (8 * (i + 1 - f))
-byte_more s f i h l =
-    let e : 8 * (i + 1 - f) ≡ 8 * (i - f) + 8 = omega arith in
-    let g : f + (i - f) ≡ i = omega arith in
-    rw e (rw g at (byte_next s f (i - f) (rw g l)))
-
--- four bytes by hand
-pub four_is : (s : List ℕ) (i : ℕ) → get_or s i 0 < 256 → get_or s (i + 1) 0 < 256 → get_or s (i + 2) 0 < 256 → get_or s (i + 3) 0 < 256
-    → ((get_or s i 0 * 256 + get_or s (i + 1) 0) * 256 + get_or s (i + 2) 0) * 256 + get_or s (i + 3) 0 ≡ bits s (8 * i) 32
-four_is s i g h k l =
-    ap (λ (x : ℕ). ((x * 256 + get_or s (i + 1) 0) * 256 + get_or s (i + 2) 0) * 256 + get_or s (i + 3) 0) (sym (byte-is s i g))
-    ∙ ap (λ (x : ℕ). (x * 256 + get_or s (i + 2) 0) * 256 + get_or s (i + 3) 0) (byte_next s i 1 h)
-    ∙ ap (λ (x : ℕ). x * 256 + get_or s (i + 3) 0) (byte_next s i 2 k)
-    ∙ byte_next s i 3 l
-
-pub eight_is : (s : List ℕ) (i a b : ℕ) → a ≡ bits s (8 * i) 32 → b ≡ bits s (8 * (i + 4)) 32 → a * 4294967296 + b ≡ bits s (8 * i) 64
-eight_is s i a b e f =
-    let g : 8 * (i + 4) ≡ 8 * i + 32 = omega arith in
-    rw (e, f, g, bits-add s (8 * i) 32 32)
+-- eight bytes make the number of their 64 bits
+pub eight_is : (s : List ℕ) (i : ℕ) → ((j : ℕ) → get_or s j 0 < 256)
+    → from_be_bytes w64 (get_or s i 0 ∷ get_or s (i + 1) 0 ∷ get_or s (i + 2) 0 ∷ get_or s (i + 3) 0 ∷ get_or s (i + 4) 0 ∷ get_or s (i + 5) 0 ∷ get_or s (i + 6) 0 ∷ get_or s (i + 7) 0 ∷ []) ≡ bits s (8 * i) 64
+eight_is s i l =
+    let e0 : bits s (8 * i) 8 ≡ get_or s i 0 = byte-is s i (l i) in
+    let e1 : bits s (8 * i) 16 ≡ bits s (8 * i) 8 * 256 + get_or s (i + 1) 0 = sym (byte_next s i 1 (l (i + 1))) in
+    let e2 : bits s (8 * i) 24 ≡ bits s (8 * i) 16 * 256 + get_or s (i + 2) 0 = sym (byte_next s i 2 (l (i + 2))) in
+    let e3 : bits s (8 * i) 32 ≡ bits s (8 * i) 24 * 256 + get_or s (i + 3) 0 = sym (byte_next s i 3 (l (i + 3))) in
+    let e4 : bits s (8 * i) 40 ≡ bits s (8 * i) 32 * 256 + get_or s (i + 4) 0 = sym (byte_next s i 4 (l (i + 4))) in
+    let e5 : bits s (8 * i) 48 ≡ bits s (8 * i) 40 * 256 + get_or s (i + 5) 0 = sym (byte_next s i 5 (l (i + 5))) in
+    let e6 : bits s (8 * i) 56 ≡ bits s (8 * i) 48 * 256 + get_or s (i + 6) 0 = sym (byte_next s i 6 (l (i + 6))) in
+    let e7 : bits s (8 * i) 64 ≡ bits s (8 * i) 56 * 256 + get_or s (i + 7) 0 = sym (byte_next s i 7 (l (i + 7))) in
+    omega (arith, e0, e1, e2, e3, e4, e5, e6, e7)
 
 -- a field between the bits in front of it and those behind it
 pub middle : (s : List ℕ) (o a w d : ℕ) → bits s o (a + (w + d)) / 2 ^ d % 2 ^ w ≡ bits s (o + a) w
@@ -116,19 +111,19 @@ from_bytes s at w f e v h i j k =
     let m : 8 * f + at % 8 ≡ at = omega arith in
     rw (one_shl w h, k, n, middle s (8 * f) (at % 8) w (8 * e - (at + w)), m)
 
-pub past : (s : List ℕ) (at w : ℕ) → 8 * length s < at + w → field_at s at w ≡ Past
+pub past : (s : List ℕ) (at w : ℕ) → 8 * length s < at + w → field_at s at w ≡ None
 unfolding field_at
 past s at w h = rw (lt-leb (at + w) (8 * length s) h)
 
-pub value : (s : List ℕ) (at w : ℕ) → at + w ≤ 8 * length s → field_at s at w ≡ Value (bits s at w)
+pub value : (s : List ℕ) (at w : ℕ) → at + w ≤ 8 * length s → field_at s at w ≡ Some (bits s at w)
 unfolding field_at
 value s at w h = rw (le-leb (at + w) (8 * length s) h)
 
 -- what a field holds has at most its width
-pub value-lt : (s : List ℕ) (at w v : ℕ) → field_at s at w ≡ Value v → v < 2 ^ w
+pub value-lt : (s : List ℕ) (at w v : ℕ) → field_at s at w ≡ Some v → v < 2 ^ w
 unfolding field_at
 value-lt s at w v e = by (leb (at + w) (8 * length s)) e
   where
-    by : (b : Bool) → cond b (Value (bits s at w)) Past ≡ Value v → v < 2 ^ w
+    by : (b : Bool) → cond b (Some (bits s at w)) None ≡ Some v → v < 2 ^ w
     by true f = let g : bits s at w ≡ v = cc in omega (arith, bits-lt s at w)
     by false f = let z : ◌≡◌ {A = ℕ} 0 1 = cc in absurd (omega arith)

@@ -1,7 +1,5 @@
 -- The bits of an image, most significant first, and the number that a run of them makes.
-use Rattle.std.specs.Prelude.{ℕ, zero, suc, ◌+◌, ◌-◌, ◌*◌, ◌/◌, ◌%◌, ◌^◌, List, cond, length, get_or, leb}
-use Rattle.bits.specs.declared.Field.{Field}
-use Rattle.bits.specs.declared.Field.TheVariants.{Value, Past}
+use Rattle.std.specs.Prelude.{ℕ, zero, suc, ◌+◌, ◌-◌, ◌*◌, ◌/◌, ◌%◌, ◌^◌, List, Option, Some, None, cond, length, get_or, leb}
 
 -- bit i of an image
 abbrev pub bit_at : List ℕ → ℕ → ℕ
@@ -12,9 +10,9 @@ unfoldable pub bits : List ℕ → ℕ → ℕ → ℕ
 bits s at zero = 0
 bits s at (suc w) = bits s at w * 2 + bit_at s (at + w)
 
--- the field of w bits from at, or Past where it runs past the image
-unfoldable pub field_at : List ℕ → ℕ → ℕ → Field
-field_at s at w = cond (leb (at + w) (8 * length s)) (Value (bits s at w)) Past
+-- the field of w bits from at, or none where it runs past the image
+unfoldable pub field_at : List ℕ → ℕ → ℕ → Option ℕ
+field_at s at w = cond (leb (at + w) (8 * length s)) (Some (bits s at w)) None
 
 -- the bits from at to the end of the eight bytes of which the first holds it, from the top of a word of 64 bits
 unfoldable pub ahead_of : List ℕ → ℕ → ℕ

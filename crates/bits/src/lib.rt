@@ -1,47 +1,18 @@
-// Bit fields of an image, most significant bit first, read by whole bytes; and the place of a reading, which keeps its first refusal.
+// Bit fields of an image, most significant bit first, read by whole bytes; and what a reading answers: what it read, or its first refusal.
 #![tactic(auto)]
 
 ghost use Rattle.std.specs.Prelude.{◌≡◌, ◌+◌, ◌-◌, ◌*◌, ◌/◌, ◌%◌, ◌≤◌, ◌<◌, ◌^◌, length, nat_abs};
 ghost use Rattle.bits.specs.Bits.{bits, field_at, ahead_of};
-ghost use Rattle.bits.specs.Place.{bit_of, within, unmeant, signed_at, Found, Number};
+ghost use Rattle.bits.specs.Place.{At, within, signed_at, Found, Number};
 ghost use Rattle.bits.specs.Signed.{signed_of};
 
-// The value of a field, or that it runs past the image.
-#[derive(Clone, Copy)]
-pub enum Field {
-    Value(u32),
-    Past,
-}
+use refusals::{Cause, Refusal};
 
-// Where a reading stands: at a bit, or refused by a number at a bit.
+// What was read, and the bit behind it.
 #[derive(Clone, Copy)]
-pub enum Place {
-    At(usize),
-    Refused(u8, usize),
-}
-
-#[derive(Clone, Copy)]
-pub struct Num {
-    pub value: u32,
-    pub place: Place,
-}
-
-#[derive(Clone, Copy)]
-pub struct SignedNum {
-    pub value: i16,
-    pub place: Place,
-}
-
-// Four bytes as one number.
-fn four_bytes(image: &[u8], i: usize) -> u64
-    requires { i + 4 ≤ length image.now }
-    ensures { result ≡ bits image.now (8 * i) 32 }
-{
-    let a = image[i] as u64;
-    let b = image[i + 1] as u64;
-    let c = image[i + 2] as u64;
-    let d = image[i + 3] as u64;
-    ((a * 256 + b) * 256 + c) * 256 + d
+pub struct Reading<T> {
+    pub item: T,
+    pub end: usize,
 }
 
 // Eight bytes as one number: a single load of the machine.
@@ -49,7 +20,16 @@ fn window(image: &[u8], first: usize) -> u64
     requires { first + 8 ≤ length image.now }
     ensures { result ≡ bits image.now (8 * first) 64 }
 {
-    four_bytes(image, first) * 4294967296 + four_bytes(image, first + 4)
+    u64::from_be_bytes([
+        image[first],
+        image[first + 1],
+        image[first + 2],
+        image[first + 3],
+        image[first + 4],
+        image[first + 5],
+        image[first + 6],
+        image[first + 7],
+    ])
 }
 
 // The bits of a window behind the first few.
@@ -72,10 +52,7 @@ pub fn ahead(image: &[u8], at: usize) -> u64
 pub fn between(v: u64, low: u64, high: u64) -> bool
     ensures { result ≡ within low high v }
 {
-    if v < low {
-        return false;
-    }
-    v <= high
+    low <= v && v <= high
 }
 
 // A field near the image's end, from the bytes that it touches.
@@ -83,13 +60,10 @@ fn last_bits(image: &[u8], at: usize, width: usize) -> u32
     requires { (1 ≤ width) × (width ≤ 32) × (at < 2 ^ 32) × (at + width ≤ 8 * length image.now) }
     ensures { result ≡ bits image.now at width }
 {
-    let first = at / 8;
     let end = (at + width + 7) / 8;
     let mut v: u64 = 0;
-    let mut i = first;
-    while i < end {
-        v = v * 256 + image[i] as u64;
-        i += 1;
+    for byte in &image[at / 8..end] {
+        v = v * 256 + u64::from(*byte);
     }
     ((v >> (8 * end - (at + width))) % (1 << width)) as u32
 }
@@ -107,82 +81,53 @@ pub fn bits_at(image: &[u8], at: usize, width: usize) -> u32
 }
 
 // The same near the end, where the field may run past the image.
-fn last_field(image: &[u8], at: usize, width: usize) -> Field
+fn last_field(image: &[u8], at: usize, width: usize) -> Option<u32>
     requires { (1 ≤ width) × (width ≤ 32) × (at < 2 ^ 32) }
     ensures { result ≡ field_at image.now at width }
 {
     if (at + width + 7) / 8 > image.len() {
-        return Field::Past;
+        return None;
     }
-    Field::Value(last_bits(image, at, width))
+    Some(last_bits(image, at, width))
 }
 
 // A field anywhere: one window where eight bytes are left, which hold every field of up to 32 bits.
-pub fn read(image: &[u8], at: usize, width: usize) -> Field
+pub fn read(image: &[u8], at: usize, width: usize) -> Option<u32>
     requires { (1 ≤ width) × (width ≤ 32) × (at < 2 ^ 32) }
     ensures { result ≡ field_at image.now at width }
 {
     let first = at / 8;
     if first + 8 <= image.len() {
-        return Field::Value(cut(window(image, first), at % 8, width));
+        return Some(cut(window(image, first), at % 8, width));
     }
     last_field(image, at, width)
 }
 
-// A number of width bits at a bit, from low to high.
-fn number_from(image: &[u8], at: usize, width: usize, low: u32, high: u32, refusal: u8) -> Num
+// A number of width bits at a bit, from low to high; another is refused for the cause given.
+pub fn number(
+    image: &[u8],
+    at: usize,
+    width: usize,
+    low: u32,
+    high: u32,
+    cause: Cause,
+) -> Result<Reading<u32>, Refusal>
     requires { (1 ≤ width) × (width ≤ 32) × (at < 2 ^ 32) }
-    ensures { Number result.value result.place image.now (Place.At at) width low high refusal }
+    ensures { Number result image.now at width low high cause }
 {
-    let Field::Value(v) = read(image, at, width) else {
-        return Num {
-            value: 0,
-            place: Place::Refused(1, at),
-        };
+    let Some(item) = read(image, at, width) else {
+        return Err(Refusal {
+            cause: Cause::PastEnd,
+            place: at,
+        });
     };
-    if v < low {
-        return Num {
-            value: 0,
-            place: Place::Refused(refusal, at),
-        };
+    if !between(u64::from(item), u64::from(low), u64::from(high)) {
+        return Err(Refusal { cause, place: at });
     }
-    if v > high {
-        return Num {
-            value: 0,
-            place: Place::Refused(refusal, at),
-        };
-    }
-    Num {
-        value: v,
-        place: Place::At(at + width),
-    }
-}
-
-// The same where the reading stands.
-pub fn number(image: &[u8], place: Place, width: usize, low: u32, high: u32, refusal: u8) -> Num
-    requires { (1 ≤ width) × (width ≤ 32) × (bit_of place < 2 ^ 32) }
-    ensures { Number result.value result.place image.now place width low high refusal }
-{
-    match place {
-        Place::At(at) => number_from(image, at, width, low, high, refusal),
-        Place::Refused(n, b) => Num {
-            value: 0,
-            place: Place::Refused(n, b),
-        },
-    }
-}
-
-// Where a reading stands behind a code that no arm of a match takes.
-pub fn no_meaning(before: Place, after: Place) -> Place
-    ensures { result ≡ unmeant before after }
-{
-    match after {
-        Place::At(_) => match before {
-            Place::At(at) => Place::Refused(2, at),
-            Place::Refused(n, b) => Place::Refused(n, b),
-        },
-        Place::Refused(n, b) => Place::Refused(n, b),
-    }
+    Ok(Reading {
+        item,
+        end: at + width,
+    })
 }
 
 // One sign extension for every width: full is 2 to the width.
@@ -206,39 +151,30 @@ pub fn magnitude(v: u32, full: u32) -> u32
 }
 
 // A signed number at a bit, at most limit from 0.
-fn signed_from(image: &[u8], at: usize, width: usize, full: u32, limit: u32) -> SignedNum
+pub fn signed_number(
+    image: &[u8],
+    at: usize,
+    width: usize,
+    full: u32,
+    limit: u32,
+) -> Result<Reading<i16>, Refusal>
     requires { (1 ≤ width) × (width ≤ 15) × (at < 2 ^ 32) × (full ≡ 2 ^ width) }
-    ensures { Found result.value result.place (signed_at image.now (Place.At at) width limit) (Place.At at) width }
+    ensures { Found result (signed_at image.now (At at) width limit) at width }
 {
-    let Field::Value(v) = read(image, at, width) else {
-        return SignedNum {
-            value: 0,
-            place: Place::Refused(1, at),
-        };
+    let Some(v) = read(image, at, width) else {
+        return Err(Refusal {
+            cause: Cause::PastEnd,
+            place: at,
+        });
     };
     if magnitude(v, full) > limit {
-        return SignedNum {
-            value: 0,
-            place: Place::Refused(3, at),
-        };
+        return Err(Refusal {
+            cause: Cause::PastLimits,
+            place: at,
+        });
     }
-    let z = extend(v, full);
-    SignedNum {
-        value: z,
-        place: Place::At(at + width),
-    }
-}
-
-// The same where the reading stands.
-pub fn signed_number(image: &[u8], place: Place, width: usize, full: u32, limit: u32) -> SignedNum
-    requires { (1 ≤ width) × (width ≤ 15) × (bit_of place < 2 ^ 32) × (full ≡ 2 ^ width) }
-    ensures { Found result.value result.place (signed_at image.now place width limit) place width }
-{
-    match place {
-        Place::At(at) => signed_from(image, at, width, full, limit),
-        Place::Refused(n, b) => SignedNum {
-            value: 0,
-            place: Place::Refused(n, b),
-        },
-    }
+    Ok(Reading {
+        item: extend(v, full),
+        end: at + width,
+    })
 }

@@ -8,9 +8,8 @@ use lib.ListN.{length, get_or, set, replicate, length-set, length-replicate, get
 use lib.Seq.{get_or-set_same, get_or-set_other}
 use borrow.Author.Tests.{ltb-true, ltb-false}
 use mathlib.Core.Bool.{Bool, true, false}
-use Rattle.bits.specs.declared.Place.{Place}
-use Rattle.bits.specs.declared.Place.TheVariants.{At, Refused}
-use Rattle.bits.specs.Place.{Read, number_at}
+use Rattle.refusals.specs.declared.Cause.TheVariants.{NoMeaning, PastLimits}
+use Rattle.bits.specs.Place.{Place, At, Refused, Read, number_at}
 use Rattle.bits.proofs.ReadLaws.{Stands, number_in, signed-in, signed_below}
 use Rattle.rules.specs.Nothing.{no_year, no_monthday, no_week, no_weekday, no_span, no_rule}
 use Rattle.rule_items.specs.Codes.{operator_at}
@@ -32,17 +31,17 @@ module _ (s : List ℕ) where
   year-in : In YearOk (year_at s)
   unfolding In year_at
   year-in p k =
-      let c = number_in s _ 14 1 9999 3 k in
-      let b = number_in s _ 14 1900 9999 3 c.0 in
-      let a = number_in s p 14 1900 9999 3 b.0 in
+      let c = number_in s _ 14 1 9999 PastLimits k in
+      let b = number_in s _ 14 1900 9999 PastLimits c.0 in
+      let a = number_in s p 14 1900 9999 PastLimits b.0 in
       (a.0, (a.1, (b.1, c.1)))
 
   week-in : In WeekOk (week_at s)
   unfolding In week_at
   week-in p k =
-      let c = number_in s _ 6 1 53 3 k in
-      let b = number_in s _ 6 1 53 3 c.0 in
-      let a = number_in s p 6 1 53 3 b.0 in
+      let c = number_in s _ 6 1 53 PastLimits k in
+      let b = number_in s _ 6 1 53 PastLimits c.0 in
+      let a = number_in s p 6 1 53 PastLimits b.0 in
       (a.0, (a.1, (b.1, c.1)))
 
   -- the flag decides: 0 leaves only 0, 1 a year
@@ -58,15 +57,15 @@ module _ (s : List ℕ) where
   flagged-in : In MaybeYear (flagged_year s)
   unfolding In flagged_year
   flagged-in p k =
-      let y = number_in s _ 14 _ _ 3 k in
-      let f = number_in s p 1 0 1 3 y.0 in
+      let y = number_in s _ 14 _ _ PastLimits k in
+      let f = number_in s p 1 0 1 PastLimits y.0 in
       (f.0, maybe _ _ f.1.1 y.1)
 
   fixed_in : In DateOk (fixed_date s)
   unfolding In fixed_date
   fixed_in p k =
-      let d = number_in s _ 5 1 31 3 k in
-      let m = number_in s _ 4 1 12 3 d.0 in
+      let d = number_in s _ 5 1 31 PastLimits k in
+      let m = number_in s _ 4 1 12 PastLimits d.0 in
       let y = flagged-in p m.0 in
       (y.0, (y.1, (m.1, d.1)))
 
@@ -74,8 +73,8 @@ module _ (s : List ℕ) where
   unfolding In nth_date
   nth_in p k =
       let n = signed_below s _ 4 8 8 refl k in
-      let d = number_in s _ 3 0 6 2 n.0 in
-      let m = number_in s _ 4 1 12 3 d.0 in
+      let d = number_in s _ 3 0 6 NoMeaning n.0 in
+      let m = number_in s _ 4 1 12 PastLimits d.0 in
       let y = flagged-in p m.0 in
       (y.0, (y.1, (m.1, (d.1.1, n.1))))
 
@@ -92,8 +91,8 @@ module _ (s : List ℕ) where
   date-in : In DateOk (date_at s)
   unfolding In date_at
   date-in p k =
-      let d = date-form-in (number_at s p 2 0 2 2).item (number_at s p 2 0 2 2).place k in
-      ((number_in s p 2 0 2 2 d.0).0, d.1)
+      let d = date-form-in (number_at s p 2 0 2 NoMeaning).item (number_at s p 2 0 2 NoMeaning).place k in
+      ((number_in s p 2 0 2 NoMeaning d.0).0, d.1)
 
   offset-in : (edition : ℕ) → In DateOffsetOk (date_offset s edition)
   unfolding In date_offset
@@ -105,16 +104,16 @@ module _ (s : List ℕ) where
   months-in : In MonthdayOk (months_form s)
   unfolding In months_form
   months-in p k =
-      let b = number_in s _ 4 1 12 3 k in
-      let a = number_in s p 4 1 12 3 b.0 in
+      let b = number_in s _ 4 1 12 PastLimits k in
+      let a = number_in s p 4 1 12 PastLimits b.0 in
       (a.0, (a.1, b.1))
 
   year-months-in : In MonthdayOk (year_months_form s)
   unfolding In year_months_form
   year-months-in p k =
-      let b = number_in s _ 4 1 12 3 k in
-      let a = number_in s _ 4 1 12 3 b.0 in
-      let y = number_in s p 14 1900 9999 3 a.0 in
+      let b = number_in s _ 4 1 12 PastLimits k in
+      let a = number_in s _ 4 1 12 PastLimits b.0 in
+      let y = number_in s p 14 1900 9999 PastLimits a.0 in
       (y.0, (y.1, (a.1, b.1)))
 
   dates-in : (edition : ℕ) → In MonthdayOk (dates_form s edition)
@@ -133,24 +132,24 @@ module _ (s : List ℕ) where
   monthday-in : (edition : ℕ) → In MonthdayOk (monthday_at s edition)
   unfolding In monthday_at
   monthday-in edition p k =
-      let d = monthday-form-in edition (number_at s p 2 0 2 2).item (number_at s p 2 0 2 2).place k in
-      ((number_in s p 2 0 2 2 d.0).0, d.1)
+      let d = monthday-form-in edition (number_at s p 2 0 2 NoMeaning).item (number_at s p 2 0 2 NoMeaning).place k in
+      ((number_in s p 2 0 2 NoMeaning d.0).0, d.1)
 
   weekdays-in : In WeekdayOk (fixed_weekdays s)
   unfolding In fixed_weekdays
   weekdays-in p k =
       let o = signed-in s _ 10 366 k in
-      let g = number_in s _ 5 0 31 3 o.0 in
-      let f = number_in s _ 5 0 31 3 g.0 in
-      let b = number_in s _ 3 0 6 2 f.0 in
-      let a = number_in s p 3 0 6 2 b.0 in
+      let g = number_in s _ 5 0 31 PastLimits o.0 in
+      let f = number_in s _ 5 0 31 PastLimits g.0 in
+      let b = number_in s _ 3 0 6 NoMeaning f.0 in
+      let a = number_in s p 3 0 6 NoMeaning b.0 in
       (a.0, (a.1.1, (b.1.1, (f.1.1, (g.1.1, o.1)))))
 
   holiday-in : In WeekdayOk (holiday_form s)
   unfolding In holiday_form
   holiday-in p k =
       let o = signed-in s _ 10 366 k in
-      ((number_in s p 1 0 1 3 o.0).0, o.1)
+      ((number_in s p 1 0 1 PastLimits o.0).0, o.1)
 
   weekday-form-in : (n : ℕ) → In WeekdayOk (weekday_form s n)
   unfolding In
@@ -160,18 +159,18 @@ module _ (s : List ℕ) where
   weekday-in : In WeekdayOk (weekday_item_at s)
   unfolding In weekday_item_at
   weekday-in p k =
-      let d = weekday-form-in (number_at s p 1 0 1 2).item (number_at s p 1 0 1 2).place k in
-      ((number_in s p 1 0 1 2 d.0).0, d.1)
+      let d = weekday-form-in (number_at s p 1 0 1 NoMeaning).item (number_at s p 1 0 1 NoMeaning).place k in
+      ((number_in s p 1 0 1 NoMeaning d.0).0, d.1)
 
   fixed-time-in : In TimeOk (fixed_time s)
   unfolding In fixed_time
-  fixed-time-in p k = let m = number_in s p 12 0 2880 3 k in (m.0, m.1.1)
+  fixed-time-in p k = let m = number_in s p 12 0 2880 PastLimits k in (m.0, m.1.1)
 
   variable-time-in : In TimeOk (variable_time s)
   unfolding In variable_time
   variable-time-in p k =
       let o = signed-in s _ 12 1440 k in
-      let e = number_in s p 2 0 3 3 o.0 in
+      let e = number_in s p 2 0 3 PastLimits o.0 in
       (e.0, (e.1.1, o.1))
 
   time-form-in : (n : ℕ) → In TimeOk (time_form s n)
@@ -182,8 +181,8 @@ module _ (s : List ℕ) where
   time-in : In TimeOk (time_at s)
   unfolding In time_at
   time-in p k =
-      let d = time-form-in (number_at s p 1 0 1 2).item (number_at s p 1 0 1 2).place k in
-      ((number_in s p 1 0 1 2 d.0).0, d.1)
+      let d = time-form-in (number_at s p 1 0 1 NoMeaning).item (number_at s p 1 0 1 NoMeaning).place k in
+      ((number_in s p 1 0 1 NoMeaning d.0).0, d.1)
 
   span-in : In SpanOk (span_at s)
   unfolding In span_at
@@ -244,23 +243,23 @@ HeadOk h = (h.kind ≤ 2) × (h.comment ≤ 255)
 module _ (s : List ℕ) where
   operator-back : (p : Place) → Stands (operator_at s p).place → Stands p
   unfolding operator_at
-  operator-back p k = (number_in s p 2 0 2 2 k).0
+  operator-back p k = (number_in s p 2 0 2 NoMeaning k).0
 
   head_in : In HeadOk (head_at s)
   unfolding In HeadOk head_at
   head_in p k =
-      let c = number_in s _ 8 0 255 3 k in
-      let t = number_in s _ 2 0 2 2 c.0 in
+      let c = number_in s _ 8 0 255 PastLimits k in
+      let t = number_in s _ 2 0 2 NoMeaning c.0 in
       (operator-back p t.0, (t.1.1, c.1.1))
 
   counts-in : In Few (counts_at s)
   unfolding In counts_at
   counts-in p k =
-      let t = number_in s _ 4 0 8 3 k in
-      let d = number_in s _ 4 0 8 3 t.0 in
-      let w = number_in s _ 4 0 8 3 d.0 in
-      let m = number_in s _ 4 0 8 3 w.0 in
-      let y = number_in s p 4 0 8 3 m.0 in
+      let t = number_in s _ 4 0 8 PastLimits k in
+      let d = number_in s _ 4 0 8 PastLimits t.0 in
+      let w = number_in s _ 4 0 8 PastLimits d.0 in
+      let m = number_in s _ 4 0 8 PastLimits w.0 in
+      let y = number_in s p 4 0 8 PastLimits m.0 in
       (y.0, record { ys = y.1.1; ms = m.1.1; ws = w.1.1; ds = d.1.1; ts = t.1.1 })
 
   rule-in : (edition : ℕ) → In RuleOk (rule_at s edition)
@@ -293,15 +292,15 @@ module _ (s : List ℕ) where
   sheet-in : Stands (sheet_at s).place → SheetOk (sheet_at s).item
   unfolding sheet_at
   sheet-in k =
-      let e = (number_at s (At 0) 4 1 1 2).item in
-      let n = number_in s _ 6 0 32 3 (listed_back RuleOk (rule_at s e) (rule-in e) no_rule 32 _ _ k) in
+      let e = (number_at s (At 0) 4 1 1 NoMeaning).item in
+      let n = number_in s _ 6 0 32 PastLimits (listed_back RuleOk (rule_at s e) (rule-in e) no_rule 32 _ _ k) in
       record { count = n.1.1; rules = (listed_in RuleOk (rule_at s e) (rule-in e) no_rule 32 _ _ n.1.1 k).1 }
 
   -- fill keeps a refusal
   filled-back : (p : Place) → Stands (filled s p) → Stands p
   unfolding filled fill_bits ended
   filled-back (At a) k = record { is = tt }
-  filled-back (Refused n b) k = absurd k.is
+  filled-back (Refused c b) k = absurd k.is
 
   none-ok : SheetOk no_sheet
   none-ok =
@@ -317,4 +316,4 @@ module _ (s : List ℕ) where
     where
       by : (e : Place) → filled s (sheet_at s).place ≡ e → SheetOk (kept e (sheet_at s).item)
       by (At a) q = sheet-in (filled-back (sheet_at s).place (rw q (record { is = tt })))
-      by (Refused n b) q = none-ok
+      by (Refused c b) q = none-ok

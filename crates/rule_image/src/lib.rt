@@ -1,14 +1,18 @@
-// The reading of a rule image, for any bytes: the sheet, or the refusal's number and place in reading order.
+// The reading of a rule image, for any bytes: the sheet, or the first refusal in reading order.
 #![tactic(auto)]
 
 mod fill;
 mod sheet;
 
-ghost use Rattle.std.specs.Prelude.{◌≡◌};
-ghost use Rattle.rule_image.specs.Reading.{reading, no_sheet, verdict_on};
+ghost use Rattle.std.specs.Prelude.{◌≡◌, ◌+◌, ◌*◌, ◌≤◌, length};
+ghost use Rattle.bits.specs.Place.{At, outcome};
+ghost use Rattle.rule_lists.specs.Listed.{listed, Filled};
+ghost use Rattle.rule_lists.specs.RuleAt.{rule_at};
+ghost use Rattle.rule_image.specs.Reading.{reading, verdict_on};
 
-use bits::Place;
-use rules::Sheet;
+use bits::Reading;
+use refusals::Refusal;
+use rules::{Rule, Sheet};
 
 // What stands in front of the rules.
 #[derive(Clone, Copy)]
@@ -17,80 +21,37 @@ pub struct Header {
     pub count: usize,
 }
 
-// The sheet, and where it ends; a refused image has the sheet without rules.
-#[derive(Clone, Copy)]
-pub struct SheetRead {
-    pub sheet: Sheet,
-    pub end: Place,
-}
-
-// The number of rules, or a refusal's number and place.
-#[derive(Clone, Copy)]
-pub enum Verdict {
-    Accepted(usize),
-    Refused(u8, usize),
-}
-
-fn no_sheet() -> Sheet
-    ensures { result ≡ no_sheet }
+// Reads a rule into each place of a room, and says where they end.
+fn rules_into(image: &[u8], at: usize, edition: u32, room: &mut [Rule]) -> Result<usize, Refusal>
+    requires { (at ≤ 16) × (length room.old ≤ 32) }
+    ensures { Filled result room.new (listed (rule_at image.now edition) room.old (At at) (length room.old)) (at + 1592 * length room.old) }
 {
-    let none = rules::no_rule();
-    Sheet {
-        count: 0,
-        rules: [none; 32],
+    let mut end = at;
+    for rule in room {
+        let reading = rule_lists::rule::rule(image, end, edition)?;
+        *rule = reading.item;
+        end = reading.end;
     }
+    Ok(end)
 }
 
-// The rules are set where the sheet is built: it is large, and each copy of it costs as much as a rule.
-pub fn read_sheet(image: &[u8]) -> SheetRead
-    ensures { record { item = result.sheet; place = result.end } ≡ reading image.now }
+// The rules are read where they stay: a sheet is large, and each copy of it costs as much as a rule.
+pub fn read_sheet(image: &[u8]) -> Result<Reading<Sheet>, Refusal>
+    ensures { result ≡ outcome (reading image.now) }
 {
-    let h = sheet::header(image);
-    let head = h.item;
-    let count = head.count;
-    let edition = head.edition;
-    let none = rules::no_rule();
-    let mut items = [none; 32];
-    let mut p = h.place;
-    let mut i: usize = 0;
-    while i < count {
-        let r = rule_lists::rule::rule(image, p, edition);
-        let item = r.item;
-        items[i] = item;
-        p = r.place;
-        i += 1;
-    }
-    let end = fill::filled(image, p);
-    match end {
-        Place::At(at) => {
-            return SheetRead {
-                sheet: Sheet {
-                    count: count,
-                    rules: items,
-                },
-                end: Place::At(at),
-            };
-        }
-        Place::Refused(n, b) => {
-            let nothing = no_sheet();
-            return SheetRead {
-                sheet: nothing,
-                end: Place::Refused(n, b),
-            };
-        }
-    }
+    let head = sheet::header(image)?;
+    let count = head.item.count;
+    let mut rules = [rules::no_rule(); 32];
+    let behind = rules_into(image, head.end, head.item.edition, &mut rules[..count])?;
+    let end = fill::filled(image, behind)?;
+    Ok(Reading {
+        item: Sheet { count, rules },
+        end,
+    })
 }
 
-pub fn check_sheet(image: &[u8]) -> Verdict
+pub fn check_sheet(image: &[u8]) -> Result<usize, Refusal>
     ensures { result ≡ verdict_on image.now }
 {
-    let r = read_sheet(image);
-    let end = r.end;
-    match end {
-        Place::At(_) => {
-            let sheet = r.sheet;
-            Verdict::Accepted(sheet.count)
-        }
-        Place::Refused(n, b) => Verdict::Refused(n, b),
-    }
+    read_sheet(image).map(|sheet| sheet.item.count)
 }

@@ -1,63 +1,54 @@
 // What stands in front of the rules: edition, reserved bits and count.
-ghost use Rattle.std.specs.Prelude.{◌<◌, ◌≤◌, ◌^◌};
-ghost use Rattle.bits.specs.Place.{bit_of, Found, Number};
+ghost use Rattle.std.specs.Prelude.{◌<◌, ◌≤◌, ◌^◌, IfOk};
+ghost use Rattle.refusals.specs.declared.Cause.TheVariants.{NoMeaning};
+ghost use Rattle.bits.specs.Place.{Found, Number};
 ghost use Rattle.rule_image.specs.Reading.{header_at};
 
 use crate::Header;
-use bits::{Num, Place};
+use bits::Reading;
+use refusals::{Cause, Refusal};
 
-#[derive(Clone, Copy)]
-pub struct HeaderRead {
-    pub item: Header,
-    pub place: Place,
-}
-
-fn edition(image: &[u8]) -> Num
-    ensures { Number result.value result.place image.now (Place.At 0) 4 1 1 2 }
+#[tactic(auto, using(crate::proofs::ReadingLaws::edition_kept))]
+fn edition(image: &[u8]) -> Result<Reading<u32>, Refusal>
+    ensures { Number result image.now 0 4 1 1 NoMeaning }
 {
-    let code = bits::number(image, Place::At(0), 4, 0, 15, 2);
-    let p = code.place;
-    let c = code.value;
-    match c {
-        1 => Num { value: c, place: p },
-        _ => {
-            let q = bits::no_meaning(Place::At(0), p);
-            Num { value: 0, place: q }
-        }
+    let code = bits::number(image, 0, 4, 0, 15, Cause::NoMeaning)?;
+    match code.item {
+        1 => Ok(code),
+        _ => Err(Refusal {
+            cause: Cause::NoMeaning,
+            place: 0,
+        }),
     }
 }
 
-fn reserved(image: &[u8], place: Place) -> Num
-    requires { bit_of place < 2 ^ 30 }
-    ensures { Number result.value result.place image.now place 6 0 0 2 }
+#[tactic(auto, using(crate::proofs::ReadingLaws::reserved_kept))]
+fn reserved(image: &[u8], at: usize) -> Result<Reading<u32>, Refusal>
+    requires { at < 2 ^ 30 }
+    ensures { Number result image.now at 6 0 0 NoMeaning }
 {
-    let code = bits::number(image, place, 6, 0, 63, 2);
-    let p = code.place;
-    let c = code.value;
-    match c {
-        0 => Num { value: c, place: p },
-        _ => {
-            let q = bits::no_meaning(place, p);
-            Num { value: 0, place: q }
-        }
+    let code = bits::number(image, at, 6, 0, 63, Cause::NoMeaning)?;
+    match code.item {
+        0 => Ok(code),
+        _ => Err(Refusal {
+            cause: Cause::NoMeaning,
+            place: at,
+        }),
     }
 }
 
-pub fn header(image: &[u8]) -> HeaderRead
-    ensures found { Found result.item result.place (header_at image.now) (Place.At 0) 16 }
-    ensures count_bound { result.item.count ≤ 32 }
+pub fn header(image: &[u8]) -> Result<Reading<Header>, Refusal>
+    ensures found { Found result (header_at image.now) 0 16 }
+    ensures count_bound { IfOk result (λ r. r.item.count ≤ 32) }
 {
-    let e = edition(image);
-    let p = e.place;
-    let v = reserved(image, p);
-    let q = v.place;
-    let n = bits::number(image, q, 6, 0, 32, 3);
-    let r = n.place;
-    HeaderRead {
+    let edition = edition(image)?;
+    let reserved = reserved(image, edition.end)?;
+    let count = bits::number(image, reserved.end, 6, 0, 32, Cause::PastLimits)?;
+    Ok(Reading {
         item: Header {
-            edition: e.value,
-            count: n.value as usize,
+            edition: edition.item,
+            count: count.item as usize,
         },
-        place: r,
-    }
+        end: count.end,
+    })
 }

@@ -1,7 +1,7 @@
 -- Dates, dates with an offset, and monthday items.
 use Rattle.std.specs.Prelude.{ℕ, zero, suc, ◌*◌, List, ℤ}
-use Rattle.bits.specs.declared.Place.{Place}
-use Rattle.bits.specs.Place.{Read, number_at, signed_at}
+use Rattle.refusals.specs.declared.Cause.TheVariants.{NoMeaning, PastLimits}
+use Rattle.bits.specs.Place.{Place, Read, number_at, signed_at}
 use Rattle.rules.specs.declared.Date.{Date}
 use Rattle.rules.specs.declared.Date.TheVariants.{Fixed, Weekday, Easter}
 use Rattle.rules.specs.declared.DateOffset.{DateOffset}
@@ -12,22 +12,22 @@ use Rattle.rule_items.specs.Codes.{weekday_at}
 -- year flag 1, year 14: 1900 to 9999, and 0 with flag 0
 unfoldable pub flagged_year : List ℕ → Place → Read ℕ
 flagged_year s p =
-    let f : Read ℕ = number_at s p 1 0 1 3 in
-    number_at s f.place 14 (1900 * f.item) (9999 * f.item) 3
+    let f : Read ℕ = number_at s p 1 0 1 PastLimits in
+    number_at s f.place 14 (1900 * f.item) (9999 * f.item) PastLimits
 
 -- flag, year, month 4, day 5 (1 to 31)
 unfoldable pub fixed_date : List ℕ → Place → Read Date
 fixed_date s p =
     let y : Read ℕ = flagged_year s p in
-    let m : Read ℕ = number_at s y.place 4 1 12 3 in
-    let d : Read ℕ = number_at s m.place 5 1 31 3 in
+    let m : Read ℕ = number_at s y.place 4 1 12 PastLimits in
+    let d : Read ℕ = number_at s m.place 5 1 31 PastLimits in
     record { item = Fixed y.item m.item d.item; place = d.place }
 
 -- flag, year, month, weekday 3, nth 4 bits signed
 unfoldable pub nth_date : List ℕ → Place → Read Date
 nth_date s p =
     let y : Read ℕ = flagged_year s p in
-    let m : Read ℕ = number_at s y.place 4 1 12 3 in
+    let m : Read ℕ = number_at s y.place 4 1 12 PastLimits in
     let d : Read ℕ = weekday_at s m.place in
     let n : Read ℤ = signed_at s d.place 4 8 in
     record { item = Weekday y.item m.item d.item n.item; place = n.place }
@@ -46,7 +46,7 @@ date_form s (suc (suc n)) p = easter_date s p
 -- tag 2: 0 fixed, 1 nth weekday, 2 Easter
 unfoldable pub date_at : List ℕ → Place → Read Date
 date_at s p =
-    let t : Read ℕ = number_at s p 2 0 2 2 in
+    let t : Read ℕ = number_at s p 2 0 2 NoMeaning in
     date_form s t.item t.place
 
 -- date, offset 10, of the edition given: edition 1 has nothing more
@@ -59,16 +59,16 @@ date_offset s edition p =
 -- start month 4, end month 4 (1 to 12)
 unfoldable pub months_form : List ℕ → Place → Read MonthdayItem
 months_form s p =
-    let a : Read ℕ = number_at s p 4 1 12 3 in
-    let b : Read ℕ = number_at s a.place 4 1 12 3 in
+    let a : Read ℕ = number_at s p 4 1 12 PastLimits in
+    let b : Read ℕ = number_at s a.place 4 1 12 PastLimits in
     record { item = record { form = Months a.item b.item }; place = b.place }
 
 -- year 14, then the months
 unfoldable pub year_months_form : List ℕ → Place → Read MonthdayItem
 year_months_form s p =
-    let y : Read ℕ = number_at s p 14 1900 9999 3 in
-    let a : Read ℕ = number_at s y.place 4 1 12 3 in
-    let b : Read ℕ = number_at s a.place 4 1 12 3 in
+    let y : Read ℕ = number_at s p 14 1900 9999 PastLimits in
+    let a : Read ℕ = number_at s y.place 4 1 12 PastLimits in
+    let b : Read ℕ = number_at s a.place 4 1 12 PastLimits in
     record { item = record { form = YearMonths y.item a.item b.item }; place = b.place }
 
 -- start date, offset, end date, offset
@@ -86,5 +86,5 @@ monthday_form s edition (suc (suc n)) p = dates_form s edition p
 -- tag 2: 0 months, 1 months with year, 2 dates
 unfoldable pub monthday_at : List ℕ → ℕ → Place → Read MonthdayItem
 monthday_at s edition p =
-    let t : Read ℕ = number_at s p 2 0 2 2 in
+    let t : Read ℕ = number_at s p 2 0 2 NoMeaning in
     monthday_form s edition t.item t.place

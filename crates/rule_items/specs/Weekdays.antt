@@ -1,7 +1,7 @@
 -- Weekday items.
 use Rattle.std.specs.Prelude.{ℕ, zero, suc, List, eqb, ℤ}
-use Rattle.bits.specs.declared.Place.{Place}
-use Rattle.bits.specs.Place.{Read, number_at, signed_at}
+use Rattle.refusals.specs.declared.Cause.TheVariants.{NoMeaning, PastLimits}
+use Rattle.bits.specs.Place.{Place, Read, number_at, signed_at}
 use Rattle.rules.specs.declared.WeekdayItem.{WeekdayItem}
 use Rattle.rules.specs.declared.WeekdayRange.TheVariants.{Fixed, Holiday}
 use Rattle.rule_items.specs.Codes.{weekday_at}
@@ -11,15 +11,15 @@ unfoldable pub fixed_weekdays : List ℕ → Place → Read WeekdayItem
 fixed_weekdays s p =
     let a : Read ℕ = weekday_at s p in
     let b : Read ℕ = weekday_at s a.place in
-    let f : Read ℕ = number_at s b.place 5 0 31 3 in
-    let g : Read ℕ = number_at s f.place 5 0 31 3 in
+    let f : Read ℕ = number_at s b.place 5 0 31 PastLimits in
+    let g : Read ℕ = number_at s f.place 5 0 31 PastLimits in
     let o : Read ℤ = signed_at s g.place 10 366 in
     record { item = record { form = Fixed a.item b.item f.item g.item o.item }; place = o.place }
 
 -- school flag 1, offset 10
 unfoldable pub holiday_form : List ℕ → Place → Read WeekdayItem
 holiday_form s p =
-    let f : Read ℕ = number_at s p 1 0 1 3 in
+    let f : Read ℕ = number_at s p 1 0 1 PastLimits in
     let o : Read ℤ = signed_at s f.place 10 366 in
     record { item = record { form = Holiday (eqb f.item 1) o.item }; place = o.place }
 
@@ -30,5 +30,5 @@ weekday_form s (suc n) p = holiday_form s p
 -- tag 1: 0 weekdays, 1 holiday
 unfoldable pub weekday_item_at : List ℕ → Place → Read WeekdayItem
 weekday_item_at s p =
-    let t : Read ℕ = number_at s p 1 0 1 2 in
+    let t : Read ℕ = number_at s p 1 0 1 NoMeaning in
     weekday_form s t.item t.place

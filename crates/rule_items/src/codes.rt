@@ -1,75 +1,61 @@
 // Small codes, matched by number and range: what no arm takes has no meaning.
 ghost use Rattle.std.specs.Prelude.{◌<◌, ◌^◌};
-ghost use Rattle.bits.specs.Place.{bit_of, Found, Number};
+ghost use Rattle.refusals.specs.declared.Cause.TheVariants.{NoMeaning};
+ghost use Rattle.bits.specs.Place.{At, Found, Number};
 ghost use Rattle.rule_items.specs.Codes.{operator_at};
 
-use bits::{Num, Place};
+use bits::Reading;
+use refusals::{Cause, Refusal};
 use rules::Operator;
 
-#[derive(Clone, Copy)]
-pub struct OperatorRead {
-    pub item: Operator,
-    pub place: Place,
+pub fn operator(image: &[u8], at: usize) -> Result<Reading<Operator>, Refusal>
+    requires { at < 2 ^ 31 }
+    ensures { Found result (operator_at image.now (At at)) at 2 }
+{
+    let code = bits::number(image, at, 2, 0, 3, Cause::NoMeaning)?;
+    let item = match code.item {
+        0 => Operator::Normal,
+        1 => Operator::Additional,
+        2 => Operator::Fallback,
+        _ => {
+            return Err(Refusal {
+                cause: Cause::NoMeaning,
+                place: at,
+            });
+        }
+    };
+    Ok(Reading {
+        item,
+        end: code.end,
+    })
 }
 
-pub fn operator(image: &[u8], place: Place) -> OperatorRead
-    requires { bit_of place < 2 ^ 31 }
-    ensures { Found result.item result.place (operator_at image.now place) place 2 }
+#[tactic(auto, using(crate::proofs::ItemLaws::kind_kept))]
+pub fn kind(image: &[u8], at: usize) -> Result<Reading<u32>, Refusal>
+    requires { at < 2 ^ 31 }
+    ensures { Number result image.now at 2 0 2 NoMeaning }
 {
-    let code = bits::number(image, place, 2, 0, 3, 2);
-    let p = code.place;
-    let c = code.value;
-    match c {
-        0 => OperatorRead {
-            item: Operator::Normal,
-            place: p,
-        },
-        1 => OperatorRead {
-            item: Operator::Additional,
-            place: p,
-        },
-        2 => OperatorRead {
-            item: Operator::Fallback,
-            place: p,
-        },
-        _ => {
-            let q = bits::no_meaning(place, p);
-            OperatorRead {
-                item: Operator::Normal,
-                place: q,
-            }
-        }
+    let code = bits::number(image, at, 2, 0, 3, Cause::NoMeaning)?;
+    match code.item {
+        0..=2 => Ok(code),
+        _ => Err(Refusal {
+            cause: Cause::NoMeaning,
+            place: at,
+        }),
     }
 }
 
-pub fn kind(image: &[u8], place: Place) -> Num
-    requires { bit_of place < 2 ^ 31 }
-    ensures { Number result.value result.place image.now place 2 0 2 2 }
+#[tactic(auto, using(crate::proofs::ItemLaws::weekday_kept))]
+pub fn weekday(image: &[u8], at: usize) -> Result<Reading<u32>, Refusal>
+    requires { at < 2 ^ 31 }
+    ensures { Number result image.now at 3 0 6 NoMeaning }
 {
-    let code = bits::number(image, place, 2, 0, 3, 2);
-    let p = code.place;
-    let c = code.value;
-    match c {
-        0..=2 => Num { value: c, place: p },
-        _ => {
-            let q = bits::no_meaning(place, p);
-            Num { value: 0, place: q }
-        }
-    }
-}
-
-pub fn weekday(image: &[u8], place: Place) -> Num
-    requires { bit_of place < 2 ^ 31 }
-    ensures { Number result.value result.place image.now place 3 0 6 2 }
-{
-    let code = bits::number(image, place, 3, 0, 7, 2);
-    let p = code.place;
-    let c = code.value;
-    match c {
-        0..=6 => Num { value: c, place: p },
-        _ => {
-            let q = bits::no_meaning(place, p);
-            Num { value: 0, place: q }
-        }
+    let code = bits::number(image, at, 3, 0, 7, Cause::NoMeaning)?;
+    match code.item {
+        0..=6 => Ok(code),
+        _ => Err(Refusal {
+            cause: Cause::NoMeaning,
+            place: at,
+        }),
     }
 }

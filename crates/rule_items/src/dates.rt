@@ -1,212 +1,170 @@
 // Dates, dates with an offset, and monthday items.
-ghost use Rattle.std.specs.Prelude.{◌<◌, ◌^◌};
-ghost use Rattle.bits.specs.Place.{bit_of, Found};
+ghost use Rattle.std.specs.Prelude.{◌<◌, ◌^◌, IfOk};
+ghost use Rattle.bits.specs.Place.{At, Found};
 ghost use Rattle.rule_items.specs.Dates.{flagged_year, fixed_date, nth_date, easter_date, date_at};
 ghost use Rattle.rule_items.specs.Dates.{date_offset, months_form, year_months_form, dates_form, monthday_at};
 
-use bits::{Num, Place};
+use bits::Reading;
+use refusals::{Cause, Refusal};
 use rules::{Date, DateOffset, Monthday, MonthdayItem};
 
-#[derive(Clone, Copy)]
-pub struct DateRead {
-    pub item: Date,
-    pub place: Place,
-}
-
-#[derive(Clone, Copy)]
-pub struct DateOffsetRead {
-    pub item: DateOffset,
-    pub place: Place,
-}
-
-#[derive(Clone, Copy)]
-pub struct MonthdayRead {
-    pub item: MonthdayItem,
-    pub place: Place,
-}
-
 // A year, or 0 where its flag is not set.
-fn flagged_year(image: &[u8], place: Place) -> Num
-    requires { bit_of place < 2 ^ 31 }
-    ensures found { Found result.value result.place (flagged_year image.now place) place 15 }
-    ensures value_bound { result.value < 2 ^ 14 }
+fn flagged_year(image: &[u8], at: usize) -> Result<Reading<u32>, Refusal>
+    requires { at < 2 ^ 31 }
+    ensures found { Found result (flagged_year image.now (At at)) at 15 }
+    ensures value_bound { IfOk result (λ r. r.item < 2 ^ 14) }
 {
-    let flag = bits::number(image, place, 1, 0, 1, 3);
-    let p = flag.place;
-    let f = flag.value;
-    bits::number(image, p, 14, 1900 * f, 9999 * f, 3)
+    let flag = bits::number(image, at, 1, 0, 1, Cause::PastLimits)?;
+    let f = flag.item;
+    bits::number(image, flag.end, 14, 1900 * f, 9999 * f, Cause::PastLimits)
 }
 
-fn fixed_date(image: &[u8], place: Place) -> DateRead
-    requires { bit_of place < 2 ^ 30 }
-    ensures { Found result.item result.place (fixed_date image.now place) place 26 }
+fn fixed_date(image: &[u8], at: usize) -> Result<Reading<Date>, Refusal>
+    requires { at < 2 ^ 30 }
+    ensures { Found result (fixed_date image.now (At at)) at 26 }
 {
-    let year = flagged_year(image, place);
-    let p = year.place;
-    let month = bits::number(image, p, 4, 1, 12, 3);
-    let q = month.place;
-    let day = bits::number(image, q, 5, 1, 31, 3);
-    let r = day.place;
-    DateRead {
+    let year = flagged_year(image, at)?;
+    let month = bits::number(image, year.end, 4, 1, 12, Cause::PastLimits)?;
+    let day = bits::number(image, month.end, 5, 1, 31, Cause::PastLimits)?;
+    Ok(Reading {
         item: Date::Fixed {
-            year: year.value as u16,
-            month: month.value as u8,
-            day: day.value as u8,
+            year: year.item as u16,
+            month: month.item as u8,
+            day: day.item as u8,
         },
-        place: r,
-    }
+        end: day.end,
+    })
 }
 
-fn nth_date(image: &[u8], place: Place) -> DateRead
-    requires { bit_of place < 2 ^ 30 }
-    ensures { Found result.item result.place (nth_date image.now place) place 26 }
+fn nth_date(image: &[u8], at: usize) -> Result<Reading<Date>, Refusal>
+    requires { at < 2 ^ 30 }
+    ensures { Found result (nth_date image.now (At at)) at 26 }
 {
-    let year = flagged_year(image, place);
-    let p = year.place;
-    let month = bits::number(image, p, 4, 1, 12, 3);
-    let q = month.place;
-    let weekday = crate::codes::weekday(image, q);
-    let r = weekday.place;
-    let nth = bits::signed_number(image, r, 4, 16, 8);
-    let end = nth.place;
-    DateRead {
+    let year = flagged_year(image, at)?;
+    let month = bits::number(image, year.end, 4, 1, 12, Cause::PastLimits)?;
+    let weekday = crate::codes::weekday(image, month.end)?;
+    let nth = bits::signed_number(image, weekday.end, 4, 16, 8)?;
+    Ok(Reading {
         item: Date::Weekday {
-            year: year.value as u16,
-            month: month.value as u8,
-            weekday: weekday.value as u8,
-            nth: nth.value,
+            year: year.item as u16,
+            month: month.item as u8,
+            weekday: weekday.item as u8,
+            nth: nth.item,
         },
-        place: end,
-    }
+        end: nth.end,
+    })
 }
 
-fn easter_date(image: &[u8], place: Place) -> DateRead
-    requires { bit_of place < 2 ^ 30 }
-    ensures { Found result.item result.place (easter_date image.now place) place 26 }
+fn easter_date(image: &[u8], at: usize) -> Result<Reading<Date>, Refusal>
+    requires { at < 2 ^ 30 }
+    ensures { Found result (easter_date image.now (At at)) at 26 }
 {
-    let year = flagged_year(image, place);
-    let p = year.place;
-    DateRead {
+    let year = flagged_year(image, at)?;
+    Ok(Reading {
         item: Date::Easter {
-            year: year.value as u16,
+            year: year.item as u16,
         },
-        place: p,
-    }
+        end: year.end,
+    })
 }
 
-pub fn date(image: &[u8], place: Place) -> DateRead
-    requires { bit_of place < 2 ^ 29 }
-    ensures { Found result.item result.place (date_at image.now place) place 28 }
+pub fn date(image: &[u8], at: usize) -> Result<Reading<Date>, Refusal>
+    requires { at < 2 ^ 29 }
+    ensures { Found result (date_at image.now (At at)) at 28 }
 {
-    let tag = bits::number(image, place, 2, 0, 3, 2);
-    let p = tag.place;
-    let t = tag.value;
-    match t {
-        0 => fixed_date(image, p),
-        1 => nth_date(image, p),
-        2 => easter_date(image, p),
-        _ => {
-            let q = bits::no_meaning(place, p);
-            fixed_date(image, q)
-        }
+    let tag = bits::number(image, at, 2, 0, 3, Cause::NoMeaning)?;
+    match tag.item {
+        0 => fixed_date(image, tag.end),
+        1 => nth_date(image, tag.end),
+        2 => easter_date(image, tag.end),
+        _ => Err(Refusal {
+            cause: Cause::NoMeaning,
+            place: at,
+        }),
     }
 }
 
 // The edition decides what stands behind the offset: in edition 1 nothing.
-pub fn date_offset(image: &[u8], place: Place, edition: u32) -> DateOffsetRead
-    requires { bit_of place < 2 ^ 28 }
-    ensures { Found result.item result.place (date_offset image.now edition place) place 38 }
+pub fn date_offset(image: &[u8], at: usize, edition: u32) -> Result<Reading<DateOffset>, Refusal>
+    requires { at < 2 ^ 28 }
+    ensures { Found result (date_offset image.now edition (At at)) at 38 }
 {
-    let d = date(image, place);
-    let date = d.item;
-    let p = d.place;
-    let o = bits::signed_number(image, p, 10, 1024, 366);
-    let q = o.place;
-    DateOffsetRead {
+    let date = date(image, at)?;
+    let offset = bits::signed_number(image, date.end, 10, 1024, 366)?;
+    Ok(Reading {
         item: DateOffset {
-            date: date,
-            offset: o.value,
+            date: date.item,
+            offset: offset.item,
         },
-        place: q,
-    }
+        end: offset.end,
+    })
 }
 
-fn months(image: &[u8], place: Place) -> MonthdayRead
-    requires { bit_of place < 2 ^ 27 }
-    ensures { Found result.item result.place (months_form image.now place) place 76 }
+fn months(image: &[u8], at: usize) -> Result<Reading<MonthdayItem>, Refusal>
+    requires { at < 2 ^ 27 }
+    ensures { Found result (months_form image.now (At at)) at 76 }
 {
-    let a = bits::number(image, place, 4, 1, 12, 3);
-    let p = a.place;
-    let b = bits::number(image, p, 4, 1, 12, 3);
-    let q = b.place;
-    MonthdayRead {
+    let start = bits::number(image, at, 4, 1, 12, Cause::PastLimits)?;
+    let end = bits::number(image, start.end, 4, 1, 12, Cause::PastLimits)?;
+    Ok(Reading {
         item: MonthdayItem {
             form: Monthday::Months {
-                start: a.value as u8,
-                end: b.value as u8,
+                start: start.item as u8,
+                end: end.item as u8,
             },
         },
-        place: q,
-    }
+        end: end.end,
+    })
 }
 
-fn year_months(image: &[u8], place: Place) -> MonthdayRead
-    requires { bit_of place < 2 ^ 27 }
-    ensures { Found result.item result.place (year_months_form image.now place) place 76 }
+fn year_months(image: &[u8], at: usize) -> Result<Reading<MonthdayItem>, Refusal>
+    requires { at < 2 ^ 27 }
+    ensures { Found result (year_months_form image.now (At at)) at 76 }
 {
-    let year = bits::number(image, place, 14, 1900, 9999, 3);
-    let p = year.place;
-    let a = bits::number(image, p, 4, 1, 12, 3);
-    let q = a.place;
-    let b = bits::number(image, q, 4, 1, 12, 3);
-    let r = b.place;
-    MonthdayRead {
+    let year = bits::number(image, at, 14, 1900, 9999, Cause::PastLimits)?;
+    let start = bits::number(image, year.end, 4, 1, 12, Cause::PastLimits)?;
+    let end = bits::number(image, start.end, 4, 1, 12, Cause::PastLimits)?;
+    Ok(Reading {
         item: MonthdayItem {
             form: Monthday::YearMonths {
-                year: year.value as u16,
-                start: a.value as u8,
-                end: b.value as u8,
+                year: year.item as u16,
+                start: start.item as u8,
+                end: end.item as u8,
             },
         },
-        place: r,
-    }
+        end: end.end,
+    })
 }
 
-fn dates(image: &[u8], place: Place, edition: u32) -> MonthdayRead
-    requires { bit_of place < 2 ^ 27 }
-    ensures { Found result.item result.place (dates_form image.now edition place) place 76 }
+fn dates(image: &[u8], at: usize, edition: u32) -> Result<Reading<MonthdayItem>, Refusal>
+    requires { at < 2 ^ 27 }
+    ensures { Found result (dates_form image.now edition (At at)) at 76 }
 {
-    let a = date_offset(image, place, edition);
-    let start = a.item;
-    let p = a.place;
-    let b = date_offset(image, p, edition);
-    let end = b.item;
-    let q = b.place;
-    MonthdayRead {
+    let start = date_offset(image, at, edition)?;
+    let end = date_offset(image, start.end, edition)?;
+    Ok(Reading {
         item: MonthdayItem {
             form: Monthday::Dates {
-                start: start,
-                end: end,
+                start: start.item,
+                end: end.item,
             },
         },
-        place: q,
-    }
+        end: end.end,
+    })
 }
 
-pub fn monthday(image: &[u8], place: Place, edition: u32) -> MonthdayRead
-    requires { bit_of place < 2 ^ 26 }
-    ensures { Found result.item result.place (monthday_at image.now edition place) place 78 }
+pub fn monthday(image: &[u8], at: usize, edition: u32) -> Result<Reading<MonthdayItem>, Refusal>
+    requires { at < 2 ^ 26 }
+    ensures { Found result (monthday_at image.now edition (At at)) at 78 }
 {
-    let tag = bits::number(image, place, 2, 0, 3, 2);
-    let p = tag.place;
-    let t = tag.value;
-    match t {
-        0 => months(image, p),
-        1 => year_months(image, p),
-        2 => dates(image, p, edition),
-        _ => {
-            let q = bits::no_meaning(place, p);
-            months(image, q)
-        }
+    let tag = bits::number(image, at, 2, 0, 3, Cause::NoMeaning)?;
+    match tag.item {
+        0 => months(image, tag.end),
+        1 => year_months(image, tag.end),
+        2 => dates(image, tag.end, edition),
+        _ => Err(Refusal {
+            cause: Cause::NoMeaning,
+            place: at,
+        }),
     }
 }

@@ -1,4 +1,4 @@
-// Readers of a rule's codes and items. A refused place reads nothing and stays.
+// Readers of a rule's codes and items. The first refusal is the answer.
 #![tactic(auto)]
 
 pub mod codes;

@@ -1,73 +1,59 @@
 // Weekday items.
 ghost use Rattle.std.specs.Prelude.{◌<◌, ◌^◌};
-ghost use Rattle.bits.specs.Place.{bit_of, Found};
+ghost use Rattle.bits.specs.Place.{At, Found};
 ghost use Rattle.rule_items.specs.Weekdays.{fixed_weekdays, holiday_form, weekday_item_at};
 
-use bits::Place;
+use bits::Reading;
+use refusals::{Cause, Refusal};
 use rules::{WeekdayItem, WeekdayRange};
 
-#[derive(Clone, Copy)]
-pub struct WeekdayRead {
-    pub item: WeekdayItem,
-    pub place: Place,
-}
-
-fn fixed_weekdays(image: &[u8], place: Place) -> WeekdayRead
-    requires { bit_of place < 2 ^ 30 }
-    ensures { Found result.item result.place (fixed_weekdays image.now place) place 26 }
+fn fixed_weekdays(image: &[u8], at: usize) -> Result<Reading<WeekdayItem>, Refusal>
+    requires { at < 2 ^ 30 }
+    ensures { Found result (fixed_weekdays image.now (At at)) at 26 }
 {
-    let start = crate::codes::weekday(image, place);
-    let p = start.place;
-    let end = crate::codes::weekday(image, p);
-    let q = end.place;
-    let from_start = bits::number(image, q, 5, 0, 31, 3);
-    let r = from_start.place;
-    let from_end = bits::number(image, r, 5, 0, 31, 3);
-    let s = from_end.place;
-    let offset = bits::signed_number(image, s, 10, 1024, 366);
-    let t = offset.place;
-    WeekdayRead {
+    let start = crate::codes::weekday(image, at)?;
+    let end = crate::codes::weekday(image, start.end)?;
+    let from_start = bits::number(image, end.end, 5, 0, 31, Cause::PastLimits)?;
+    let from_end = bits::number(image, from_start.end, 5, 0, 31, Cause::PastLimits)?;
+    let offset = bits::signed_number(image, from_end.end, 10, 1024, 366)?;
+    Ok(Reading {
         item: WeekdayItem {
             form: WeekdayRange::Fixed {
-                start: start.value as u8,
-                end: end.value as u8,
-                from_start: from_start.value as u8,
-                from_end: from_end.value as u8,
-                offset: offset.value,
+                start: start.item as u8,
+                end: end.item as u8,
+                from_start: from_start.item as u8,
+                from_end: from_end.item as u8,
+                offset: offset.item,
             },
         },
-        place: t,
-    }
+        end: offset.end,
+    })
 }
 
-fn holiday(image: &[u8], place: Place) -> WeekdayRead
-    requires { bit_of place < 2 ^ 30 }
-    ensures { Found result.item result.place (holiday_form image.now place) place 26 }
+fn holiday(image: &[u8], at: usize) -> Result<Reading<WeekdayItem>, Refusal>
+    requires { at < 2 ^ 30 }
+    ensures { Found result (holiday_form image.now (At at)) at 26 }
 {
-    let school = bits::number(image, place, 1, 0, 1, 3);
-    let p = school.place;
-    let offset = bits::signed_number(image, p, 10, 1024, 366);
-    let q = offset.place;
-    WeekdayRead {
+    let school = bits::number(image, at, 1, 0, 1, Cause::PastLimits)?;
+    let offset = bits::signed_number(image, school.end, 10, 1024, 366)?;
+    Ok(Reading {
         item: WeekdayItem {
             form: WeekdayRange::Holiday {
-                school: school.value == 1,
-                offset: offset.value,
+                school: school.item == 1,
+                offset: offset.item,
             },
         },
-        place: q,
-    }
+        end: offset.end,
+    })
 }
 
-pub fn weekday_item(image: &[u8], place: Place) -> WeekdayRead
-    requires { bit_of place < 2 ^ 29 }
-    ensures { Found result.item result.place (weekday_item_at image.now place) place 27 }
+pub fn weekday_item(image: &[u8], at: usize) -> Result<Reading<WeekdayItem>, Refusal>
+    requires { at < 2 ^ 29 }
+    ensures { Found result (weekday_item_at image.now (At at)) at 27 }
 {
-    let tag = bits::number(image, place, 1, 0, 1, 2);
-    let p = tag.place;
-    let t = tag.value;
-    match t {
-        0 => fixed_weekdays(image, p),
-        _ => holiday(image, p),
+    let tag = bits::number(image, at, 1, 0, 1, Cause::NoMeaning)?;
+    match tag.item {
+        0 => fixed_weekdays(image, tag.end),
+        _ => holiday(image, tag.end),
     }
 }

@@ -1,8 +1,10 @@
 -- Counted items.
-use Rattle.std.specs.Prelude.{ℕ, zero, suc, ◌+◌, ◌*◌, ◌<◌, ◌≤◌, ◌≡◌, List, set}
-use Rattle.bits.specs.declared.Place.{Place}
-use Rattle.bits.specs.declared.Place.TheVariants.{At}
-use Rattle.bits.specs.Place.{Read, bit_of}
+use Rattle.std.specs.Prelude.{ℕ, zero, suc, ◌+◌, ◌/◌, ◌≤◌, ◌≡◌, List, length, set, Option, Some, Result, MatchResult}
+use Rattle.refusals.specs.declared.Refusal.{Refusal}
+use Rattle.bits.specs.Bits.{ahead_of}
+use Rattle.bits.specs.Place.{Place, At, Refused, Read}
+use Rattle.bits.specs.declared.Reading.{Reading}
+use Rattle.rule_words.specs.declared.Taken.{Taken}
 
 -- k items, one behind the other, set into a room from its front; what stands behind them stays
 unfoldable pub listed : {A : Type 0} → (Place → Read A) → List A → Place → ℕ → Read (List A)
@@ -12,13 +14,16 @@ listed {A} f room p (suc k) =
     let y : Read A = f r.place in
     record { item = set r.item k y.item; place = y.place }
 
--- what a caller learns of an item that was taken out of words: where its width is not 0, it is the item that is read at the bit
-pub record Taken {A : Type 0} (item : A) (width : ℕ) (read : Place → Read A) (at most : ℕ) : Type 0 where
-  pub is : 0 < width → record { item = item; place = At (at + width) } ≡ read (At at)
-  pub top : width ≤ most
+-- what a caller learns of a list that was read into a room: its items and where it ends, at most at a bit, or its refusal
+abbrev pub Filled : {A : Type 0} → Result ℕ Refusal → List A → Read (List A) → ℕ → Type 0
+Filled result room list top =
+    MatchResult result (λ end. (record { item = room; place = At end } ≡ list) × (end ≤ top)) (λ e. list.place ≡ Refused e.cause e.place)
 
--- what a caller learns of the front of a list: how many of its items it has, what they are, and that each took at most w bits
-pub record Begun {A : Type 0} (items : A) (after : Place) (done : ℕ) (list : Place → ℕ → Read A) (before : Place) (w count : ℕ) : Type 0 where
-  pub is : record { item = items; place = after } ≡ list before done
-  pub near : bit_of after ≤ bit_of before + w * done
-  pub most : done ≤ count
+-- what a caller learns of what a taker found at a bit: the word ahead, what it took of that, and where this ends
+pub record Fronted {A : Type 0} (finds : ℕ → Option (Taken A) → Type 0) (s : List ℕ) (at : ℕ) (r : Reading A) : Type 0 where
+  pub word : ℕ
+  pub taken : Taken A
+  pub left : at / 8 + 8 ≤ length s
+  pub ahead : word ≡ ahead_of s at
+  pub found : finds word (Some taken)
+  pub is : r ≡ record { item = taken.item; end = at + taken.width }

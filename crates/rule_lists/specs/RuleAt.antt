@@ -1,7 +1,7 @@
 -- A rule: what it does, its five counts, its items.
 use Rattle.std.specs.Prelude.{ℕ, ◌≤◌, List, replicate}
-use Rattle.bits.specs.declared.Place.{Place}
-use Rattle.bits.specs.Place.{Read, number_at}
+use Rattle.refusals.specs.declared.Cause.TheVariants.{PastLimits}
+use Rattle.bits.specs.Place.{Place, Read, number_at}
 use Rattle.rules.specs.Nothing.{no_year, no_monthday, no_week, no_weekday, no_span}
 use Rattle.rules.specs.declared.Operator.{Operator}
 use Rattle.rules.specs.declared.YearItem.{YearItem}
@@ -24,12 +24,12 @@ unfoldable pub head_at : List ℕ → Place → Read Head
 head_at s p =
     let o : Read Operator = operator_at s p in
     let k : Read ℕ = kind_at s o.place in
-    let c : Read ℕ = number_at s k.place 8 0 255 3 in
+    let c : Read ℕ = number_at s k.place 8 0 255 PastLimits in
     record { item = record { operator = o.item; kind = k.item; comment = c.item }; place = c.place }
 
 -- a count 4, 0 to 8
 abbrev pub count_at : List ℕ → Place → Read ℕ
-count_at s p = number_at s p 4 0 8 3
+count_at s p = number_at s p 4 0 8 PastLimits
 
 -- years, monthdays, weeks, weekdays, spans
 unfoldable pub counts_at : List ℕ → Place → Read Counts

@@ -1,7 +1,7 @@
 // A rule of an image: what it does, its five counts, its items.
 #![tactic(auto)]
 
-mod ahead;
+mod item;
 mod lists;
 pub mod rule;
 

@@ -1,135 +1,85 @@
 // A rule: what it does, its five counts, its items.
-ghost use Rattle.std.specs.Prelude.{◌≡◌, ◌<◌, ◌^◌};
-ghost use Rattle.bits.specs.Place.{bit_of, Found};
-ghost use Rattle.rule_lists.specs.RuleAt.{head_at, counts_at, Few, rule_of, rule_at};
+ghost use Rattle.std.specs.Prelude.{◌<◌, ◌^◌, IfOk};
+ghost use Rattle.bits.specs.Place.{At, Found};
+ghost use Rattle.rule_lists.specs.RuleAt.{head_at, counts_at, Few, rule_at};
 
-use crate::{Counts, Head, lists};
-use bits::Place;
-use rules::{MonthdayItem, Rule, TimeSpan, WeekItem, WeekdayItem, YearItem};
+use crate::lists::fill;
+use crate::{Counts, Head};
+use bits::Reading;
+use refusals::{Cause, Refusal};
+use rules::Rule;
 
-#[derive(Clone, Copy)]
-pub struct HeadRead {
-    pub item: Head,
-    pub place: Place,
-}
-
-#[derive(Clone, Copy)]
-pub struct CountsRead {
-    pub item: Counts,
-    pub place: Place,
-}
-
-#[derive(Clone, Copy)]
-pub struct RuleRead {
-    pub item: Rule,
-    pub place: Place,
-}
-
-fn head(image: &[u8], place: Place) -> HeadRead
-    requires { bit_of place < 2 ^ 30 }
-    ensures { Found result.item result.place (head_at image.now place) place 12 }
+fn head(image: &[u8], at: usize) -> Result<Reading<Head>, Refusal>
+    requires { at < 2 ^ 30 }
+    ensures { Found result (head_at image.now (At at)) at 12 }
 {
-    let o = rule_items::codes::operator(image, place);
-    let operator = o.item;
-    let p = o.place;
-    let kind = rule_items::codes::kind(image, p);
-    let q = kind.place;
-    let comment = bits::number(image, q, 8, 0, 255, 3);
-    let r = comment.place;
-    HeadRead {
+    let operator = rule_items::codes::operator(image, at)?;
+    let kind = rule_items::codes::kind(image, operator.end)?;
+    let comment = bits::number(image, kind.end, 8, 0, 255, Cause::PastLimits)?;
+    Ok(Reading {
         item: Head {
-            operator: operator,
-            kind: kind.value as u8,
-            comment: comment.value as u8,
+            operator: operator.item,
+            kind: kind.item as u8,
+            comment: comment.item as u8,
         },
-        place: r,
-    }
+        end: comment.end,
+    })
 }
 
-fn counts(image: &[u8], place: Place) -> CountsRead
-    requires { bit_of place < 2 ^ 30 }
-    ensures found { Found result.item result.place (counts_at image.now place) place 20 }
-    ensures few { Few result.item }
+fn counts(image: &[u8], at: usize) -> Result<Reading<Counts>, Refusal>
+    requires { at < 2 ^ 30 }
+    ensures found { Found result (counts_at image.now (At at)) at 20 }
+    ensures few { IfOk result (λ r. Few r.item) }
 {
-    let years = bits::number(image, place, 4, 0, 8, 3);
-    let p = years.place;
-    let monthdays = bits::number(image, p, 4, 0, 8, 3);
-    let q = monthdays.place;
-    let weeks = bits::number(image, q, 4, 0, 8, 3);
-    let r = weeks.place;
-    let weekdays = bits::number(image, r, 4, 0, 8, 3);
-    let s = weekdays.place;
-    let spans = bits::number(image, s, 4, 0, 8, 3);
-    let t = spans.place;
-    CountsRead {
+    let years = bits::number(image, at, 4, 0, 8, Cause::PastLimits)?;
+    let monthdays = bits::number(image, years.end, 4, 0, 8, Cause::PastLimits)?;
+    let weeks = bits::number(image, monthdays.end, 4, 0, 8, Cause::PastLimits)?;
+    let weekdays = bits::number(image, weeks.end, 4, 0, 8, Cause::PastLimits)?;
+    let spans = bits::number(image, weekdays.end, 4, 0, 8, Cause::PastLimits)?;
+    Ok(Reading {
         item: Counts {
-            years: years.value as usize,
-            monthdays: monthdays.value as usize,
-            weeks: weeks.value as usize,
-            weekdays: weekdays.value as usize,
-            spans: spans.value as usize,
+            years: years.item as usize,
+            monthdays: monthdays.item as usize,
+            weeks: weeks.item as usize,
+            weekdays: weekdays.item as usize,
+            spans: spans.item as usize,
         },
-        place: t,
-    }
+        end: spans.end,
+    })
 }
 
-fn rule_of(
-    head: Head,
-    n: Counts,
-    years: [YearItem; 8],
-    monthdays: [MonthdayItem; 8],
-    weeks: [WeekItem; 8],
-    weekdays: [WeekdayItem; 8],
-    spans: [TimeSpan; 8],
-) -> Rule
-    ensures { result ≡ rule_of head n years monthdays weeks weekdays spans }
+pub fn rule(image: &[u8], at: usize, edition: u32) -> Result<Reading<Rule>, Refusal>
+    requires { at < 2 ^ 24 }
+    ensures { Found result (rule_at image.now edition (At at)) at 1592 }
 {
-    let operator = head.operator;
-    Rule {
-        operator: operator,
-        kind: head.kind,
-        comment: head.comment,
+    let head = head(image, at)?;
+    let does = head.item;
+    let counts = counts(image, head.end)?;
+    let n = counts.item;
+    let mut years = [rules::no_year(); 8];
+    let end = fill(image, counts.end, edition, &mut years[..n.years])?;
+    let mut monthdays = [rules::no_monthday(); 8];
+    let end = fill(image, end, edition, &mut monthdays[..n.monthdays])?;
+    let mut weeks = [rules::no_week(); 8];
+    let end = fill(image, end, edition, &mut weeks[..n.weeks])?;
+    let mut weekdays = [rules::no_weekday(); 8];
+    let end = fill(image, end, edition, &mut weekdays[..n.weekdays])?;
+    let mut spans = [rules::no_span(); 8];
+    let end = fill(image, end, edition, &mut spans[..n.spans])?;
+    let item = Rule {
+        operator: does.operator,
+        kind: does.kind,
+        comment: does.comment,
         year_count: n.years,
         monthday_count: n.monthdays,
         week_count: n.weeks,
         weekday_count: n.weekdays,
         span_count: n.spans,
-        years: years,
-        monthdays: monthdays,
-        weeks: weeks,
-        weekdays: weekdays,
-        spans: spans,
-    }
-}
-
-pub fn rule(image: &[u8], place: Place, edition: u32) -> RuleRead
-    requires { bit_of place < 2 ^ 24 }
-    ensures { Found result.item result.place (rule_at image.now edition place) place 1592 }
-{
-    let h = head(image, place);
-    let does = h.item;
-    let p1 = h.place;
-    let c = counts(image, p1);
-    let n = c.item;
-    let p2 = c.place;
-    let ys = lists::year_items(image, p2, n.years);
-    let years = ys.items;
-    let p3 = ys.place;
-    let ms = lists::monthday_items(image, p3, n.monthdays, edition);
-    let monthdays = ms.items;
-    let p4 = ms.place;
-    let ws = lists::week_items(image, p4, n.weeks);
-    let weeks = ws.items;
-    let p5 = ws.place;
-    let ds = lists::weekday_items(image, p5, n.weekdays);
-    let weekdays = ds.items;
-    let p6 = ds.place;
-    let ts = lists::span_items(image, p6, n.spans);
-    let spans = ts.items;
-    let p7 = ts.place;
-    let item = rule_of(does, n, years, monthdays, weeks, weekdays, spans);
-    RuleRead {
-        item: item,
-        place: p7,
-    }
+        years,
+        monthdays,
+        weeks,
+        weekdays,
+        spans,
+    };
+    Ok(Reading { item, end })
 }

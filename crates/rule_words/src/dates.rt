@@ -1,138 +1,88 @@
 // Dates with an offset.
-ghost use Rattle.std.specs.Prelude.{◌≡◌};
-ghost use Rattle.rule_words.specs.Words.{flagged_good, fixed_good, nth_good};
-ghost use Rattle.rule_words.specs.Words.{no_date, fixed_taken, nth_taken, easter_taken, date_taken};
+ghost use Rattle.std.specs.Prelude.{◌≡◌, ◌≤◌, IfSome};
+ghost use Rattle.bits.specs.Bits.{part};
+ghost use Rattle.rule_words.specs.Words.{Kept, flagged_good, fixed_taken, nth_taken, easter_taken};
+ghost use Rattle.rule_words.specs.Words.{date_taken};
 
-use crate::DateTaken;
+use crate::Taken;
 use rules::{Date, DateOffset};
 
-fn no_date() -> DateTaken
-    ensures { result ≡ no_date }
+// A year, or 0 where its flag is not set.
+#[tactic(auto, unfolding(crate::specs::Words::flagged_good))]
+fn flagged_year(word: u64) -> Option<u64>
+    ensures { Kept result (flagged_good word) (part word 47 14) }
 {
-    DateTaken {
-        item: DateOffset {
-            date: Date::Easter { year: 0 },
-            offset: 0,
-        },
-        width: 0,
-    }
+    let flag = crate::part(word, 61, 1);
+    crate::number(word, 47, 14, 1900 * flag, 9999 * flag)
 }
 
-fn flagged_good(w: u64) -> bool
-    ensures { result ≡ flagged_good w }
+#[tactic(auto, unfolding(crate::specs::Words::fixed_taken, crate::specs::Words::fixed_good))]
+fn fixed(word: u64) -> Option<Taken<DateOffset>>
+    ensures taken { result ≡ fixed_taken word }
+    ensures narrow { IfSome result (λ t. t.width ≤ 38) }
 {
-    let f = (w >> 61) % 2;
-    bits::between((w >> 47) % 16384, 1900 * f, 9999 * f)
+    let year = flagged_year(word)?;
+    let month = crate::number(word, 43, 4, 1, 12)?;
+    let day = crate::number(word, 38, 5, 1, 31)?;
+    let offset = crate::signed(word, 28, 10, 366)?;
+    let date = Date::Fixed {
+        year: year as u16,
+        month: month as u8,
+        day: day as u8,
+    };
+    Some(Taken {
+        item: DateOffset { date, offset },
+        width: 36,
+    })
 }
 
-fn fixed_good(w: u64) -> bool
-    ensures { result ≡ fixed_good w }
+#[tactic(auto, unfolding(crate::specs::Words::nth_taken, crate::specs::Words::nth_good))]
+fn nth(word: u64) -> Option<Taken<DateOffset>>
+    ensures taken { result ≡ nth_taken word }
+    ensures narrow { IfSome result (λ t. t.width ≤ 38) }
 {
-    if flagged_good(w) {
-        if bits::between((w >> 43) % 16, 1, 12) {
-            return bits::between((w >> 38) % 32, 1, 31);
-        }
-        return false;
-    }
-    false
+    let year = flagged_year(word)?;
+    let month = crate::number(word, 43, 4, 1, 12)?;
+    let weekday = crate::number(word, 40, 3, 0, 6)?;
+    let nth = bits::extend(crate::part(word, 36, 4) as u32, 16);
+    let offset = crate::signed(word, 26, 10, 366)?;
+    let date = Date::Weekday {
+        year: year as u16,
+        month: month as u8,
+        weekday: weekday as u8,
+        nth,
+    };
+    Some(Taken {
+        item: DateOffset { date, offset },
+        width: 38,
+    })
 }
 
-fn nth_good(w: u64) -> bool
-    ensures { result ≡ nth_good w }
+#[tactic(auto, unfolding(crate::specs::Words::easter_taken))]
+fn easter(word: u64) -> Option<Taken<DateOffset>>
+    ensures taken { result ≡ easter_taken word }
+    ensures narrow { IfSome result (λ t. t.width ≤ 38) }
 {
-    if flagged_good(w) {
-        if bits::between((w >> 43) % 16, 1, 12) {
-            return bits::between((w >> 40) % 8, 0, 6);
-        }
-        return false;
-    }
-    false
+    let year = flagged_year(word)?;
+    let offset = crate::signed(word, 37, 10, 366)?;
+    let date = Date::Easter { year: year as u16 };
+    Some(Taken {
+        item: DateOffset { date, offset },
+        width: 27,
+    })
 }
 
-fn fixed_taken(w: u64) -> DateTaken
-    ensures { result ≡ fixed_taken w }
+// Inlined, since a pair of dates calls it twice and the longest images are full of them.
+#[inline(always)]
+#[tactic(auto, unfolding(crate::specs::Words::date_taken))]
+pub fn date_offset(word: u64) -> Option<Taken<DateOffset>>
+    ensures taken { result ≡ date_taken word }
+    ensures narrow { IfSome result (λ t. t.width ≤ 38) }
 {
-    if fixed_good(w) {
-        let v = ((w >> 28) % 1024) as u32;
-        if bits::magnitude(v, 1024) <= 366 {
-            let offset = bits::extend(v, 1024);
-            return DateTaken {
-                item: DateOffset {
-                    date: Date::Fixed {
-                        year: ((w >> 47) % 16384) as u16,
-                        month: ((w >> 43) % 16) as u8,
-                        day: ((w >> 38) % 32) as u8,
-                    },
-                    offset: offset,
-                },
-                width: 36,
-            };
-        }
-        return no_date();
+    match crate::part(word, 62, 2) {
+        0 => fixed(word),
+        1 => nth(word),
+        2 => easter(word),
+        _ => None,
     }
-    no_date()
-}
-
-fn nth_taken(w: u64) -> DateTaken
-    ensures { result ≡ nth_taken w }
-{
-    if nth_good(w) {
-        let v = ((w >> 26) % 1024) as u32;
-        if bits::magnitude(v, 1024) <= 366 {
-            let nth = bits::extend(((w >> 36) % 16) as u32, 16);
-            let offset = bits::extend(v, 1024);
-            return DateTaken {
-                item: DateOffset {
-                    date: Date::Weekday {
-                        year: ((w >> 47) % 16384) as u16,
-                        month: ((w >> 43) % 16) as u8,
-                        weekday: ((w >> 40) % 8) as u8,
-                        nth: nth,
-                    },
-                    offset: offset,
-                },
-                width: 38,
-            };
-        }
-        return no_date();
-    }
-    no_date()
-}
-
-fn easter_taken(w: u64) -> DateTaken
-    ensures { result ≡ easter_taken w }
-{
-    if flagged_good(w) {
-        let v = ((w >> 37) % 1024) as u32;
-        if bits::magnitude(v, 1024) <= 366 {
-            let offset = bits::extend(v, 1024);
-            return DateTaken {
-                item: DateOffset {
-                    date: Date::Easter {
-                        year: ((w >> 47) % 16384) as u16,
-                    },
-                    offset: offset,
-                },
-                width: 27,
-            };
-        }
-        return no_date();
-    }
-    no_date()
-}
-
-pub fn date_offset(w: u64) -> DateTaken
-    ensures { result ≡ date_taken w }
-{
-    let t = (w >> 62) % 4;
-    if t == 0 {
-        return fixed_taken(w);
-    }
-    if t == 1 {
-        return nth_taken(w);
-    }
-    if t == 2 {
-        return easter_taken(w);
-    }
-    no_date()
 }

@@ -1,45 +1,28 @@
-// Times and spans.
-ghost use Rattle.std.specs.Prelude.{◌≡◌, ◌≤◌};
-ghost use Rattle.rule_words.specs.Words.{time_width, time_of, span_of};
+// Times.
+ghost use Rattle.std.specs.Prelude.{◌≡◌, ◌≤◌, IfSome};
+ghost use Rattle.rule_words.specs.Words.{time_taken};
 
-use rules::{Time, TimeSpan};
+use crate::Taken;
+use rules::Time;
 
-// 13, 15, or 0 where a field is not within its limits.
-pub fn time_width(w: u64) -> usize
-    ensures { (result ≡ time_width w) × (result ≤ 15) }
+#[tactic(auto, unfolding(crate::specs::Words::time_taken))]
+pub fn time(word: u64) -> Option<Taken<Time>>
+    ensures taken { result ≡ time_taken word }
+    ensures narrow { IfSome result (λ t. t.width ≤ 15) }
 {
-    if (w >> 63) % 2 == 0 {
-        if (w >> 51) % 4096 <= 2880 {
-            return 13;
-        }
-        return 0;
+    if crate::part(word, 63, 1) == 0 {
+        let minute = crate::number(word, 51, 12, 0, 2880)?;
+        return Some(Taken {
+            item: Time::Fixed(minute as u16),
+            width: 13,
+        });
     }
-    if bits::magnitude(((w >> 49) % 4096) as u32, 4096) <= 1440 {
-        return 15;
-    }
-    0
-}
-
-fn time_of(w: u64) -> Time
-    ensures { result ≡ time_of w }
-{
-    if (w >> 63) % 2 == 0 {
-        return Time::Fixed(((w >> 51) % 4096) as u16);
-    }
-    let offset = bits::extend(((w >> 49) % 4096) as u32, 4096);
-    Time::Variable {
-        event: ((w >> 61) % 4) as u8,
-        offset: offset,
-    }
-}
-
-pub fn span_of(w: u64, v: u64) -> TimeSpan
-    ensures { result ≡ span_of w v }
-{
-    let start = time_of(w);
-    let end = time_of(v);
-    TimeSpan {
-        start: start,
-        end: end,
-    }
+    let offset = crate::signed(word, 49, 12, 1440)?;
+    Some(Taken {
+        item: Time::Variable {
+            event: crate::part(word, 61, 2) as u8,
+            offset,
+        },
+        width: 15,
+    })
 }

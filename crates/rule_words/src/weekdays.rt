@@ -1,63 +1,57 @@
 // Weekday items.
-ghost use Rattle.std.specs.Prelude.{◌≡◌, ◌≤◌};
-ghost use Rattle.rule_words.specs.Words.{weekdays_good, holiday_good, weekday_width, weekday_of};
+ghost use Rattle.std.specs.Prelude.{◌≡◌, ◌≤◌, IfSome};
+ghost use Rattle.rule_words.specs.Words.{weekdays_taken, holiday_taken, weekday_taken};
 
+use crate::Taken;
 use rules::{WeekdayItem, WeekdayRange};
 
-fn weekdays_good(w: u64) -> bool
-    ensures { result ≡ weekdays_good w }
+#[tactic(auto, unfolding(crate::specs::Words::weekdays_taken, crate::specs::Words::weekdays_good))]
+fn weekdays(word: u64) -> Option<Taken<WeekdayItem>>
+    ensures taken { result ≡ weekdays_taken word }
+    ensures narrow { IfSome result (λ t. t.width ≤ 27) }
 {
-    if bits::between((w >> 60) % 8, 0, 6) {
-        if bits::between((w >> 57) % 8, 0, 6) {
-            return bits::magnitude(((w >> 37) % 1024) as u32, 1024) <= 366;
-        }
-        return false;
-    }
-    false
-}
-
-fn holiday_good(w: u64) -> bool
-    ensures { result ≡ holiday_good w }
-{
-    bits::magnitude(((w >> 52) % 1024) as u32, 1024) <= 366
-}
-
-// 27, 12, or 0 where a field is not within its limits.
-pub fn weekday_width(w: u64) -> usize
-    ensures { (result ≡ weekday_width w) × (result ≤ 27) }
-{
-    if (w >> 63) % 2 == 0 {
-        if weekdays_good(w) {
-            return 27;
-        }
-        return 0;
-    }
-    if holiday_good(w) {
-        return 12;
-    }
-    0
-}
-
-pub fn weekday_of(w: u64) -> WeekdayItem
-    ensures { result ≡ weekday_of w }
-{
-    if (w >> 63) % 2 == 0 {
-        let offset = bits::extend(((w >> 37) % 1024) as u32, 1024);
-        return WeekdayItem {
+    let start = crate::number(word, 60, 3, 0, 6)?;
+    let end = crate::number(word, 57, 3, 0, 6)?;
+    let offset = crate::signed(word, 37, 10, 366)?;
+    Some(Taken {
+        item: WeekdayItem {
             form: WeekdayRange::Fixed {
-                start: ((w >> 60) % 8) as u8,
-                end: ((w >> 57) % 8) as u8,
-                from_start: ((w >> 52) % 32) as u8,
-                from_end: ((w >> 47) % 32) as u8,
-                offset: offset,
+                start: start as u8,
+                end: end as u8,
+                from_start: crate::part(word, 52, 5) as u8,
+                from_end: crate::part(word, 47, 5) as u8,
+                offset,
             },
-        };
-    }
-    let offset = bits::extend(((w >> 52) % 1024) as u32, 1024);
-    WeekdayItem {
-        form: WeekdayRange::Holiday {
-            school: (w >> 62) % 2 == 1,
-            offset: offset,
         },
+        width: 27,
+    })
+}
+
+#[tactic(auto, unfolding(crate::specs::Words::holiday_taken, crate::specs::Words::holiday_good))]
+fn holiday(word: u64) -> Option<Taken<WeekdayItem>>
+    ensures taken { result ≡ holiday_taken word }
+    ensures narrow { IfSome result (λ t. t.width ≤ 27) }
+{
+    let offset = crate::signed(word, 52, 10, 366)?;
+    Some(Taken {
+        item: WeekdayItem {
+            form: WeekdayRange::Holiday {
+                school: crate::part(word, 62, 1) == 1,
+                offset,
+            },
+        },
+        width: 12,
+    })
+}
+
+#[tactic(auto, unfolding(crate::specs::Words::weekday_taken))]
+pub fn weekday(word: u64) -> Option<Taken<WeekdayItem>>
+    ensures taken { result ≡ weekday_taken word }
+    ensures narrow { IfSome result (λ t. t.width ≤ 27) }
+{
+    if crate::part(word, 63, 1) == 0 {
+        weekdays(word)
+    } else {
+        holiday(word)
     }
 }

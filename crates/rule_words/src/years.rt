@@ -1,49 +1,42 @@
 // Year and week items.
-ghost use Rattle.std.specs.Prelude.{◌≡◌};
-ghost use Rattle.rule_words.specs.Words.{year_good, year_of, week_good, week_of};
+ghost use Rattle.std.specs.Prelude.{◌≡◌, ◌≤◌, IfSome};
+ghost use Rattle.rule_words.specs.Words.{year_taken, week_taken};
 
+use crate::Taken;
 use rules::{WeekItem, YearItem};
 
-pub fn year_good(w: u64) -> bool
-    ensures { result ≡ year_good w }
+#[tactic(auto, unfolding(crate::specs::Words::year_taken, crate::specs::Words::year_good, crate::specs::Words::year_of))]
+pub fn year(word: u64) -> Option<Taken<YearItem>>
+    ensures taken { result ≡ year_taken word }
+    ensures narrow { IfSome result (λ t. t.width ≤ 42) }
 {
-    if bits::between((w >> 50) % 16384, 1900, 9999) {
-        if bits::between((w >> 36) % 16384, 1900, 9999) {
-            return bits::between((w >> 22) % 16384, 1, 9999);
-        }
-        return false;
-    }
-    false
+    let start = crate::number(word, 50, 14, 1900, 9999)?;
+    let end = crate::number(word, 36, 14, 1900, 9999)?;
+    let step = crate::number(word, 22, 14, 1, 9999)?;
+    Some(Taken {
+        item: YearItem {
+            start: start as u16,
+            end: end as u16,
+            step: step as u16,
+        },
+        width: 42,
+    })
 }
 
-pub fn year_of(w: u64) -> YearItem
-    ensures { result ≡ year_of w }
+#[tactic(auto, unfolding(crate::specs::Words::week_taken, crate::specs::Words::week_good, crate::specs::Words::week_of))]
+pub fn week(word: u64) -> Option<Taken<WeekItem>>
+    ensures taken { result ≡ week_taken word }
+    ensures narrow { IfSome result (λ t. t.width ≤ 18) }
 {
-    YearItem {
-        start: ((w >> 50) % 16384) as u16,
-        end: ((w >> 36) % 16384) as u16,
-        step: ((w >> 22) % 16384) as u16,
-    }
-}
-
-pub fn week_good(w: u64) -> bool
-    ensures { result ≡ week_good w }
-{
-    if bits::between((w >> 58) % 64, 1, 53) {
-        if bits::between((w >> 52) % 64, 1, 53) {
-            return bits::between((w >> 46) % 64, 1, 53);
-        }
-        return false;
-    }
-    false
-}
-
-pub fn week_of(w: u64) -> WeekItem
-    ensures { result ≡ week_of w }
-{
-    WeekItem {
-        start: ((w >> 58) % 64) as u8,
-        end: ((w >> 52) % 64) as u8,
-        step: ((w >> 46) % 64) as u8,
-    }
+    let start = crate::number(word, 58, 6, 1, 53)?;
+    let end = crate::number(word, 52, 6, 1, 53)?;
+    let step = crate::number(word, 46, 6, 1, 53)?;
+    Some(Taken {
+        item: WeekItem {
+            start: start as u8,
+            end: end as u8,
+            step: step as u8,
+        },
+        width: 18,
+    })
 }

@@ -1,15 +1,17 @@
--- By the place.
-use mathlib.Core.Path.{ap}
-use Rattle.bits.specs.Place.{bit_of}
-use Rattle.bits.proofs.ReadLaws.{number-at, number-kept}
-use native.Mathlib.Omega.{arith}
+-- By the field's cases and the test.
+use mathlib.Core.Path.{sym, ◌∙◌}
+use Rattle.bits.proofs.ReadLaws.{number_past, number-wrong, number-right}
 use Rattle.bits.proofs.number.Goals as goal
 
-pub number_from-requires : goal.number_from-requires
-number_from-requires c = omega (arith, ap bit_of c.in-At.is)
+pub returns-in_default : goal.returns-in_default
+returns-in_default c = number_past _ _ _ _ _ _ (sym c.read.ensures ∙ c.in_default.is)
 
-pub returns-in-At : goal.returns-in-At
-returns-in-At c = number-at _ _ _ _ _ _ _ _ _ c.in-At.is c.number_from.ensures
+pub returns-then-not-between : goal.returns-then-not-between
+returns-then-not-between c =
+    number-wrong _ _ _ _ _ _ _ (sym c.read.ensures ∙ c.in-Some.is)
+    (rw (← c.from.ensures, ← c.from-2.ensures, ← c.from-3.ensures) (sym c.between.ensures ∙ c.if-not-between.true))
 
-pub returns-in-Refused : goal.returns-in-Refused
-returns-in-Refused c = number-kept _ _ _ _ _ _ _ _ c.in-Refused.is
+pub returns : goal.returns
+returns c =
+    number-right _ _ _ _ _ _ _ (sym c.read.ensures ∙ c.in-Some.is)
+    (rw (← c.from.ensures, ← c.from-2.ensures, ← c.from-3.ensures) (sym c.between.ensures ∙ c.if-not-between.false))

@@ -1,28 +1,23 @@
-use native.Mathlib.Omega.{arith}
-use Rattle.rules.specs.Nothing.{no_rule}
-use Rattle.rule_lists.proofs.ListLaws.{listed-step, listed-none}
-use Rattle.rule_image.proofs.ReadingLaws.{sheet-whole, read-accepted, read-refused}
+-- The header, the rules and the end in their order.
+use Rattle.rule_image.proofs.ReadingLaws.{refused-head, refused-rules, refused-end, accepted, rules-set, rules-left}
 use Rattle.rule_image.proofs.read_sheet.Goals as goal
 
-pub loop-i-init : goal.loop-i-init
-loop-i-init c =
-    let h = c.header-h.ensures in
-    (omega arith, listed-none _ 32 no_rule _ _ c.no_rule-none.ensures, omega arith, omega (arith, h.found.near), h.count_bound)
+pub returns-in_err-head : goal.returns-in_err-head
+returns-in_err-head c = refused-head _ _ _ c.from_residual.ensures.1 c.in_err-head.ensures.found.is
 
-pub loop-i-preserved : goal.loop-i-preserved
-loop-i-preserved c =
-    let l = c.loop-i in
-    (omega arith, listed-step _ _ _ _ _ _ _ l.invariant.1 c.rule-r.ensures.is, omega (arith, c.rule-r.ensures.near), l.invariant.3, l.invariant.4)
+pub returns-in_err-behind : goal.returns-in_err-behind
+returns-in_err-behind c =
+    let h = c.in_ok-head.ensures in
+    refused-rules _ _ _ _ c.from_residual-in_err-behind.ensures.1 h.found.is
+    (rules-left _ _ _ c.no_rule-rules.ensures _ _ h.count_bound _ _ c.in_err-behind.ensures)
 
-pub returns-in-At : goal.returns-in-At
-returns-in-At c =
-    let l = c.loop-i in
-    read-accepted _ _ _ _ (sheet-whole _ _ _ _ _ c.header-h.ensures.found.is l.invariant.1 l.invariant.0 c.loop-i-test.false)
-    c.filled-end.ensures c.in-At.is
+pub returns-in_err-end : goal.returns-in_err-end
+returns-in_err-end c =
+    let h = c.in_ok-head.ensures in
+    refused-end _ _ _ _ _ _ c.from_residual-in_err-end.ensures.1 h.found.is
+    (rules-set _ _ _ c.no_rule-rules.ensures _ _ h.count_bound _ _ c.in_ok-behind.ensures.0) c.in_err-end.ensures
 
-pub returns-in-Refused : goal.returns-in-Refused
-returns-in-Refused c =
-    let l = c.loop-i in
-    read-refused _ _ _ _ _ _ c.no_sheet-nothing.ensures
-    (sheet-whole _ _ _ _ _ c.header-h.ensures.found.is l.invariant.1 l.invariant.0 c.loop-i-test.false)
-    c.filled-end.ensures c.in-Refused.is
+pub returns : goal.returns
+returns c =
+    let h = c.in_ok-head.ensures in
+    accepted _ _ _ _ _ h.found.is (rules-set _ _ _ c.no_rule-rules.ensures _ _ h.count_bound _ _ c.in_ok-behind.ensures.0) c.in_ok-end.ensures

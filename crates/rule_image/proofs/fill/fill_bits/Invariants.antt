@@ -1,12 +1,9 @@
--- The loop's invariant: the place behind i fill bits.
-use Prim.Native.Nat.{◌≤◌, ◌-◌, ◌+◌}
+-- The loop's invariant: the place behind as many fill bits as were read.
+use Prim.Native.Nat.{◌≤◌, ◌+◌}
 use mathlib.Core.Path.{◌≡◌}
-use Rattle.bits.specs.Place.{bit_of}
+use Rattle.bits.specs.Place.{At}
 use Rattle.rule_image.specs.Reading.{fill_bits}
 use Rattle.rule_image.proofs.fill.fill_bits.Given as goal
 
-abbrev pub invariant-loop-i : goal.invariant-loop-i
-invariant-loop-i l = (l.i ≤ l.count) × (l.p ≡ fill_bits l.image l.initial.p l.i) × (bit_of l.p ≤ bit_of l.initial.p + l.i)
-
-abbrev pub decreases-loop-i : goal.decreases-loop-i
-decreases-loop-i l = l.count - l.i
+abbrev pub invariant-loop : goal.invariant-loop
+invariant-loop l = record { place : fill_bits l.image (At l.at) l.counter ≡ At l.end; near : l.end ≤ l.at + l.counter }

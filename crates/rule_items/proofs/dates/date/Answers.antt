@@ -1,31 +1,32 @@
--- By the tag; where it has no meaning, nothing is read at the refused place.
-use mathlib.Core.Path.{◌∙◌}
-use Rattle.rule_items.specs.Dates.{date_form, date_at}
-use Rattle.bits.proofs.ReadLaws.{tag-right, tag-wrong, unmeant-low}
+-- By the tag; where it has no meaning, it is refused for that.
 use native.Mathlib.Omega.{arith}
-use borrow.Author.Rules.{rules}
+use Rattle.bits.proofs.ReadLaws.{tag-read, tag-refused, no-tag, left, found_refused, further}
+use Rattle.rule_items.specs.Dates.{date_form, date_at}
+use Rattle.rule_items.proofs.ItemLaws.{date-form-stays}
 use Rattle.rule_items.proofs.dates.date.Goals as goal
 
-pub fixed_date-requires-in_default : goal.fixed_date-requires-in_default
-fixed_date-requires-in_default c = omega (arith, unmeant-low _ _ _ c.no_meaning-q.ensures)
+pub returns-in_err-tag : goal.returns-in_err-tag
+unfolding date_at
+returns-in_err-tag c = left _ _ _ _ _ c.from_residual.ensures.1 (no-tag (date_form _) _ 2 2 3 (omega arith) _ (date-form-stays _) _ c.in_err-tag.ensures)
 
 pub returns-in-0 : goal.returns-in-0
 unfolding date_at
-returns-in-0 c = record { is = c.fixed_date.ensures.is ∙ tag-right (date_form _) _ 2 2 3 (omega arith) _ _ c.number-tag.ensures.is 0 c.in-0.is (omega arith); near = search rules }
+returns-in-0 c =
+    further _ _ _ _ _ _ _ c.fixed_date.ensures (tag-read (date_form _) _ 2 2 3 (omega arith) _ _ c.in_ok-tag.ensures 0 c.in-0.is (omega arith))
+    (omega (arith, c.in_ok-tag.ensures.near))
 
 pub returns-in-1 : goal.returns-in-1
 unfolding date_at
-returns-in-1 c = record { is = c.nth_date.ensures.is ∙ tag-right (date_form _) _ 2 2 3 (omega arith) _ _ c.number-tag.ensures.is 1 c.in-1.is (omega arith); near = search rules }
+returns-in-1 c =
+    further _ _ _ _ _ _ _ c.nth_date.ensures (tag-read (date_form _) _ 2 2 3 (omega arith) _ _ c.in_ok-tag.ensures 1 c.in-1.is (omega arith))
+    (omega (arith, c.in_ok-tag.ensures.near))
 
 pub returns-in-2 : goal.returns-in-2
 unfolding date_at
-returns-in-2 c = record { is = c.easter_date.ensures.is ∙ tag-right (date_form _) _ 2 2 3 (omega arith) _ _ c.number-tag.ensures.is 2 c.in-2.is (omega arith); near = search rules }
+returns-in-2 c =
+    further _ _ _ _ _ _ _ c.easter_date.ensures (tag-read (date_form _) _ 2 2 3 (omega arith) _ _ c.in_ok-tag.ensures 2 c.in-2.is (omega arith))
+    (omega (arith, c.in_ok-tag.ensures.near))
 
 pub returns-in_default : goal.returns-in_default
 unfolding date_at
-returns-in_default c =
-    record {
-      is = c.fixed_date-in_default.ensures.is
-          ∙ tag-wrong (date_form _) _ 2 2 3 (omega arith) _ _ c.number-tag.ensures.is _ c.no_meaning-q.ensures (omega arith);
-      near = omega (arith, unmeant-low _ _ _ c.no_meaning-q.ensures);
-    }
+returns-in_default c = found_refused _ _ _ _ (tag-refused (date_form _) _ 2 2 3 (omega arith) _ (date-form-stays _) _ c.in_ok-tag.ensures (omega arith))

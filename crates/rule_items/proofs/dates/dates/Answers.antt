@@ -1,7 +1,19 @@
 -- Two dates, each with its offset.
-use Rattle.rule_items.proofs.ItemLaws.{dates-made}
-use borrow.Author.Rules.{rules}
+use mathlib.Core.Path.{refl, ap}
+use native.Mathlib.Omega.{arith}
+use Rattle.bits.specs.Place.{outcome}
+use Rattle.bits.proofs.ReadLaws.{read_is, refused-is, left}
+use Rattle.rule_items.specs.Dates.{dates_form}
+use Rattle.rule_items.proofs.ItemLaws.{dates-made, offset-stays}
 use Rattle.rule_items.proofs.dates.dates.Goals as goal
 
+pub returns-in_err-start : goal.returns-in_err-start
+unfolding dates_form
+returns-in_err-start c = left _ _ _ _ _ c.from_residual.ensures.1 (rw (refused-is _ _ c.in_err-start.ensures.is) (offset-stays _ _ _ _))
+
+pub returns-in_err-end : goal.returns-in_err-end
+unfolding dates_form
+returns-in_err-end c = left _ _ _ _ _ c.from_residual-in_err-end.ensures.1 (rw (← read_is _ _ c.in_ok-start.ensures.is, refused-is _ _ c.in_err-end.ensures.is) refl)
+
 pub returns : goal.returns
-returns c = record { is = dates-made _ _ _ _ _ c.date_offset-a.ensures.is c.date_offset-b.ensures.is; near = search rules }
+returns c = record { is = ap outcome (dates-made _ _ _ _ _ (read_is _ _ c.in_ok-start.ensures.is) (read_is _ _ c.in_ok-end.ensures.is)); near = omega (arith, c.in_ok-start.ensures.near, c.in_ok-end.ensures.near) }

@@ -1,21 +1,22 @@
 -- By the tag, which has two meanings and one bit.
-use mathlib.Core.Path.{◌∙◌}
-use Rattle.rule_items.specs.Spans.{time_form, time_at}
-use Rattle.bits.proofs.ReadLaws.{tag-right}
-use Rattle.rule_items.proofs.ItemLaws.{one_left}
 use native.Mathlib.Omega.{arith}
-use borrow.Author.Rules.{rules}
+use Rattle.bits.proofs.ReadLaws.{tag-read, no-tag, left, further}
+use Rattle.rule_items.specs.Spans.{time_form, time_at}
+use Rattle.rule_items.proofs.ItemLaws.{time-form-stays, one_left}
 use Rattle.rule_items.proofs.spans.time.Goals as goal
+
+pub returns-in_err-tag : goal.returns-in_err-tag
+unfolding time_at
+returns-in_err-tag c = left _ _ _ _ _ c.from_residual.ensures.1 (no-tag (time_form _) _ 1 1 1 (omega arith) _ (time-form-stays _) _ c.in_err-tag.ensures)
 
 pub returns-in-0 : goal.returns-in-0
 unfolding time_at
-returns-in-0 c = record { is = c.fixed_time.ensures.is ∙ tag-right (time_form _) _ 1 1 1 (omega arith) _ _ c.number-tag.ensures.is 0 c.in-0.is (omega arith); near = search rules }
+returns-in-0 c =
+    further _ _ _ _ _ _ _ c.fixed_time.ensures (tag-read (time_form _) _ 1 1 1 (omega arith) _ _ c.in_ok-tag.ensures 0 c.in-0.is (omega arith))
+    (omega (arith, c.in_ok-tag.ensures.near))
 
 pub returns-in_default : goal.returns-in_default
 unfolding time_at
 returns-in_default c =
-    record {
-      is = c.variable_time.ensures.is
-          ∙ tag-right (time_form _) _ 1 1 1 (omega arith) _ _ c.number-tag.ensures.is 1 (one_left _ c.number-tag.ensures.top (omega arith)) (omega arith);
-      near = search rules;
-    }
+    further _ _ _ _ _ _ _ c.variable_time.ensures (tag-read (time_form _) _ 1 1 1 (omega arith) _ _ c.in_ok-tag.ensures 1 (one_left _ c.in_ok-tag.ensures.top (omega arith)) (omega arith))
+    (omega (arith, c.in_ok-tag.ensures.near))
