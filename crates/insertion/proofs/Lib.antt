@@ -1,5 +1,4 @@
 pub mod Plans
-pub mod Passing
 pub mod Joining
-pub mod Moves
 pub mod Planning
+pub mod Stores

@@ -1,41 +1,39 @@
 -- What the parts of an insertion say of the words that they work on.
-use Rattle.std.specs.Prelude.{◌≡◌, List, ◌∷◌, ◌++◌, ℕ, ◌+◌, ◌≤◌, ◌<◌, length, take, drop, get_or, replicate}
+use Rattle.std.specs.Prelude.{◌≡◌, List, [], ◌∷◌, ◌++◌, ℕ, ◌+◌, ◌-◌, ◌≤◌, ◌<◌, length, take, drop, Option, None, Some}
 use Rattle.std.proofs.lemmas.List.Edits.{sets}
 use Rattle.ranges.specs.Range.{Range}
 use Rattle.ranges.specs.Words.{range_of, ranges}
 use Rattle.insertion.specs.declared.Side.{Side}
 use Rattle.insertion.specs.declared.Plan.{Plan}
 
--- of the ranges from k on, r is the first that ends after s
-pub record Passed (xs : List ℕ) (k n s r : ℕ) : Type 0 where
-  pub from : k ≤ r
-  pub upto : r ≤ n
-  pub low : (i : ℕ) → k ≤ i → i < r → (range_of (get_or xs i 0)).end ≤ s
-  pub high : r < n → s < (range_of (get_or xs r 0)).end
+-- the first of the ranges, if there is one, ends after minute s
+abbrev pub Reaches : ℕ → List ℕ → Type 0
+Reaches s [] = Unit {0}
+Reaches s (w ∷ l) = s < (range_of w).end
 
--- l is the word, the piece that may be there, and the ranges from `at` on
-pub record Behind (l : List Range) (xs : List ℕ) (n j : ℕ) (q : Side) : Type 0 where
-  pub few : q.count ≤ 1
-  pub from : j + q.count ≤ q.at
-  pub upto : q.at ≤ n
-  pub list : l ≡ range_of q.word ∷ ranges (replicate q.count q.piece ++ drop q.at (take n xs))
+-- a piece that may be there, as a list
+abbrev pub pieces : Option ℕ → List ℕ
+pieces None = []
+pieces (Some w) = w ∷ []
 
--- f l is the ranges before `at`, the piece that may be there, the word, and l
-pub record Before (f : List Range → List Range) (xs : List ℕ) (k : ℕ) (q : Side) : Type 0 where
-  pub few : q.count ≤ 1
-  pub upto : q.at ≤ k
-  pub list : (l : List Range) → f l ≡ ranges (take q.at xs ++ replicate q.count q.piece) ++ range_of q.word ∷ l
+-- l is the word, the piece that may be there, and the last `kept` of the ranges xs
+pub record Behind (l : List Range) (xs : List ℕ) (q : Side) : Type 0 where
+  pub few : length (pieces q.piece) + q.kept ≤ length xs
+  pub list : l ≡ ranges (q.word ∷ (pieces q.piece ++ drop (length xs - q.kept) xs))
+
+-- f l is the first `kept` of the ranges xs, the piece that may be there, the word, and l
+pub record Before (f : List Range → List Range) (xs : List ℕ) (q : Side) : Type 0 where
+  pub few : q.kept ≤ length xs
+  pub list : (l : List Range) → f l ≡ ranges (take q.kept xs ++ pieces q.piece) ++ range_of q.word ∷ l
 
 -- the words that a plan stores
 abbrev pub middle : Plan → List ℕ
-middle p = replicate p.before p.cut ++ (p.word ∷ replicate p.after p.rest)
+middle p = pieces p.cut ++ (p.word ∷ pieces p.rest)
 
-pub record Planned (l : List Range) (xs : List ℕ) (n : ℕ) (p : Plan) : Type 0 where
-  pub few : p.before ≤ 1
-  pub few' : p.after ≤ 1
-  pub from : p.left + p.after ≤ p.tail
-  pub upto : p.tail ≤ n
-  pub list : l ≡ ranges (take p.left xs ++ (middle p ++ drop p.tail (take n xs)))
+-- l is what a plan makes of the ranges xs: the piece on the right is one of them that is cut
+pub record Planned (l : List Range) (xs : List ℕ) (p : Plan) : Type 0 where
+  pub few : p.front + length (pieces p.rest) + p.behind ≤ length xs
+  pub list : l ≡ ranges (take p.front xs ++ (middle p ++ drop (length xs - p.behind) xs))
 
 -- r words of ys are the ranges l
 pub record Inserted (l : List Range) (xs ys : List ℕ) (n r : ℕ) : Type 0 where
@@ -43,13 +41,6 @@ pub record Inserted (l : List Range) (xs ys : List ℕ) (n r : ℕ) : Type 0 whe
   pub size : length ys ≡ length xs
   pub list : ranges (take r ys) ≡ l
 
--- ys is xs with the words from t up to n stored from `to` on
-pub record Moved (xs : List ℕ) (t n to : ℕ) (ys : List ℕ) : Type 0 where
-  pub is : ys ≡ sets xs to (drop t (take n xs))
-
--- ys is xs with w stored at `at`, if count is 1
-pub record Put (xs : List ℕ) (at count w : ℕ) (ys : List ℕ) : Type 0 where
-  pub is : ys ≡ sets xs at (replicate count w)
-
-pub record Three (xs : List ℕ) (left before cut word after rest : ℕ) (ys : List ℕ) : Type 0 where
-  pub is : ys ≡ sets xs left (replicate before cut ++ (word ∷ replicate after rest))
+-- ys is xs with the piece, if there is one, stored at `at`
+pub record Put (xs : List ℕ) (at : ℕ) (piece : Option ℕ) (ys : List ℕ) : Type 0 where
+  pub is : ys ≡ sets xs at (pieces piece)

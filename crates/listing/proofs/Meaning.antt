@@ -1,5 +1,6 @@
 -- What the written words mean: they are read back as the listing, minute by minute.
 use mathlib.Core.Path.{◌≡◌, ap, ◌∙◌}
+use Rattle.std.specs.Prelude.{Ok}
 use mathlib.Core.List.{List, [], ◌∷◌, map}
 use Prim.Native.Nat.{ℕ, ◌<◌}
 use native.Mathlib.Omega.{arith}
@@ -14,7 +15,7 @@ use Rattle.ranges.proofs.Cases.{split, by}
 use Rattle.ranges.proofs.WordLaws.{ranges-back}
 use Rattle.schedule.specs.declared.Schedule.{Schedule}
 use Rattle.schedule.specs.Schedules.{view, valid}
-use Rattle.schedule.proofs.Meaning.{State, Sound, valid-sound, all_fit, states-of, no-refusal}
+use Rattle.schedule.proofs.Meaning.{State, Sound, valid-sound, all_fit, states-of}
 use Rattle.listing.specs.Listing.{holes_l, merge_l, merged_l, listing, Tiles, Lists}
 use Rattle.listing.specs.Writing.{listing_of, cells_after}
 use Rattle.listing.proofs.Tiling.{listed}
@@ -48,28 +49,30 @@ pub listing-back : (l : List Range) → InOrder 0 l 1440 → Each State l → ra
 listing-back l o e = ranges-back (listing l) (all_fit 0 (listing l) (tiles-order 0 (listing l) (listed l o).tiles) (each-merged (holes_l 0 l) (each-holes 0 l e)))
 
 -- a listing that was written
-record Shown-by (s : Schedule) (o : List ℕ) : Type 0 where
+record Shown-by (s : Schedule) (o : List ℕ) (n : ℕ) : Type 0 where
   sound : Sound s
-  is : ranges (take (listing_of s (length o)).count (cells_after s o)) ≡ listing (view s)
+  is : ranges (take n (cells_after s o)) ≡ listing (view s)
 
-written_is : (s : Schedule) (o : List ℕ) → (listing_of s (length o)).refusal ≡ 0 → Shown-by s o
-written_is s o z =
+written_is : (s : Schedule) (o : List ℕ) (n : ℕ) → listing_of s (length o) ≡ Ok n → Shown-by s o n
+written_is s o n z =
     by (valid s)
     (λ p. let u = valid-sound s p in let l = listing (view s) in
     by (leb (length l) (length o))
-    (λ q. record {
+    (λ q. let said = rw (p, q) at z in
+    let same : length l ≡ n = cc in
+    record {
       sound = u;
-      is = rw (p, q)
+      is = rw (p, q, ← same)
           (ap (λ (w : List ℕ). map range_of w) (take_at (map word_of l) (drop (length l) o) (length l) (length-map l word_of))
           ∙ listing-back (view s) u.order (states-of (take s.len s.words) u.kinds));
     })
-    (λ q. no-refusal 9 (omega arith) (rw (p, q) at z)))
-    (λ p. no-refusal 10 (omega arith) (rw p at z))
+    (λ q. let said = rw (p, q) at z in cc))
+    (λ p. let said = rw p at z in cc)
 
 -- THEOREM: the words written keep the rule of the listing
-pub words-list : (s : Schedule) (o : List ℕ) → (listing_of s (length o)).refusal ≡ 0 → Lists (view s) (ranges (take (listing_of s (length o)).count (cells_after s o)))
-words-list s o z = let w = written_is s o z in rw w.is (listed (view s) w.sound.order)
+pub words-list : (s : Schedule) (o : List ℕ) (n : ℕ) → listing_of s (length o) ≡ Ok n → Lists (view s) (ranges (take n (cells_after s o)))
+words-list s o n z = let w = written_is s o n z in rw w.is (listed (view s) w.sound.order)
 
 -- THEOREM: at every minute of the day the words show the schedule's state, holes being closed
-pub words-show : (s : Schedule) (o : List ℕ) → (listing_of s (length o)).refusal ≡ 0 → (t : ℕ) → t < 1440 → state_at (ranges (take (listing_of s (length o)).count (cells_after s o))) t ≡ lit (state_at (view s) t)
-words-show s o z t h = (words-list s o z).shows_all t h
+pub words-show : (s : Schedule) (o : List ℕ) (n : ℕ) → listing_of s (length o) ≡ Ok n → (t : ℕ) → t < 1440 → state_at (ranges (take n (cells_after s o))) t ≡ lit (state_at (view s) t)
+words-show s o n z t h = (words-list s o n z).shows_all t h

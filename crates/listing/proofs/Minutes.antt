@@ -1,44 +1,23 @@
 -- The state at a minute, read off the words: the first that covers it decides.
-use mathlib.Core.Path.{◌≡◌}
-use mathlib.Core.Bool.{Bool, true, false}
-use mathlib.Core.List.{List}
-use Prim.Native.Nat.{ℕ, ◌+◌, ◌*◌, ◌%◌, ◌≤◌, ◌<◌}
-use native.Mathlib.Omega.{arith}
-use lib.Dec.{ltb}
-use borrow.Author.Tests.{le-leb, lt-leb}
-use lib.ListN.{length, take, drop, get_or}
-use Rattle.ranges.specs.States.{dark, shows, covers, state_at, lit}
+use Rattle.std.proofs.Common.{◌≡◌, refl, sym, ℕ, ◌+◌, ◌*◌, ◌%◌, List, [], ◌∷◌, arith, None, Some}
+use Rattle.std.specs.List.{find}
+use Rattle.std.specs.Option.{option_map_or}
+use Rattle.ranges.specs.States.{covers, state_at, lit}
 use Rattle.ranges.specs.Words.{range_of, ranges}
-use Rattle.ranges.proofs.Lists.{peel, peeled}
+use Rattle.ranges.proofs.Cases.{by}
 use Rattle.ranges.proofs.WordLaws.{of-kind, of-comment}
 use Rattle.listing.specs.Listing.{state_word}
-
-module _ (w t s e : ℕ) (p : s ≡ (range_of w).start) (q : e ≡ (range_of w).end) where
-  pub from_start : s ≤ t → ltb t e ≡ covers (range_of w) t
-  from_start h = rw (← p, ← q, le-leb s t h)
-
-  pub before-start : t < s → false ≡ covers (range_of w) t
-  before-start h = rw (← p, lt-leb s t h)
 
 low_bits : (w : ℕ) → w % 1024 ≡ (range_of w).kind * 256 + (range_of w).comment
 low_bits w = rw (of-kind w, of-comment w) (omega arith)
 
-pub record Seeking (xs : List ℕ) (n t i : ℕ) : Type 0 where
-  pub long : n ≤ length xs
-  pub upto : i ≤ n
-  pub same : state_at (ranges (take n xs)) t ≡ state_at (ranges (drop i (take n xs))) t
+-- the first range that covers the minute says what is shown there
+shown : (t : ℕ) (xs : List ℕ) → state_word (lit (state_at (ranges xs) t)) ≡ option_map_or (λ w. w % 1024) (find (λ w. covers (range_of w) t) xs) 256
+shown t [] = refl
+shown t (w ∷ xs) = by (covers (range_of w) t) (λ e. rw e (sym (low_bits w))) (λ e. rw e (shown t xs))
 
-module _ (xs : List ℕ) (n t i : ℕ) (st : Seeking xs n t i) where
-  module _ (h : i < n) (b : Bool) (e : b ≡ covers (range_of (get_or xs i 0)) t) where
-    pub seek_stop : b ≡ true → get_or xs i 0 % 1024 ≡ state_word (lit (state_at (ranges (take n xs)) t))
-    seek_stop q =
-        let s : state_at (ranges (take n xs)) t ≡ shows (range_of (get_or xs i 0)).kind (range_of (get_or xs i 0)).comment = rw (peel xs n i 0 h st.long, ← e, q) at st.same in
-        rw s (low_bits (get_or xs i 0))
+pub shown_some : (t : ℕ) (xs : List ℕ) (w : ℕ) → Some w ≡ find (λ x. covers (range_of x) t) xs → w % 1024 ≡ state_word (lit (state_at (ranges xs) t))
+shown_some t xs w e = sym (rw (← e) at (shown t xs))
 
-    pub seek-on : b ≡ false → Seeking xs n t (i + 1)
-    seek-on q = record { long = st.long; upto = omega arith; same = rw (peel xs n i 0 h st.long, ← e, q) at st.same }
-
-  pub seek-end : n ≤ i → 256 ≡ state_word (lit (state_at (ranges (take n xs)) t))
-  seek-end h =
-      let s : state_at (ranges (take n xs)) t ≡ dark = rw (peeled xs n i h) at st.same in
-      rw s
+pub shown_none : (t : ℕ) (xs : List ℕ) → None ≡ find (λ x. covers (range_of x) t) xs → 256 ≡ state_word (lit (state_at (ranges xs) t))
+shown_none t xs e = sym (rw (← e) at (shown t xs))

@@ -8,5 +8,4 @@ pub mod Runs
 pub mod Closing
 pub mod Validity
 pub mod WordLaws
-pub mod Copies
 pub mod Examples

@@ -1,18 +1,13 @@
--- The test of an offered list says what it is to say, both ways; and the loop that makes it.
-use mathlib.Core.Path.{◌≡◌, sym}
-use mathlib.Core.Bool.{Bool, true, false}
+-- The test of an offered list says what it is to say, both ways.
+use mathlib.Core.Path.{◌≡◌}
+use mathlib.Core.Bool.{true}
 use mathlib.Core.List.{List, [], ◌∷◌}
-use Prim.Native.Nat.{ℕ, ◌+◌, ◌/◌, ◌%◌, ◌≤◌, ◌<◌}
-use native.Mathlib.Omega.{arith}
+use Prim.Native.Nat.{ℕ, ◌≤◌}
 use lib.Dec.{leb, ltb}
-use lib.ListN.{length, take, drop, get_or}
-use borrow.Author.Tests.{le-leb, lt-leb, lt-ltb, le-ltb, leb-true, ltb-true}
+use borrow.Author.Tests.{le-leb, lt-ltb, leb-true, ltb-true}
 use Rattle.ranges.specs.Range.{Range, both}
 use Rattle.ranges.specs.States.{InOrder, Each, fits_b, order_b}
-use Rattle.ranges.specs.Words.{range_of, ranges}
 use Rattle.ranges.proofs.Cases.{both_true}
-use Rattle.ranges.proofs.Lists.{peel, peeled}
-use Rattle.ranges.proofs.WordLaws.{of-kind}
 
 abbrev pub Kind : ℕ → ℕ → Type 0
 Kind k c = k ≤ 2
@@ -31,34 +26,3 @@ order-in lo (r ∷ l) h =
 pub in_order : (lo : ℕ) (l : List Range) → InOrder lo l 1440 → Each Kind l → order_b lo l ≡ true
 in_order lo [] o k = le-leb lo 1440 o
 in_order lo (r ∷ l) o k = rw (le-leb lo r.start o.0, lt-ltb r.start r.end o.1, le-leb r.kind 2 k.0) (in_order r.end l o.2 k.1)
-
-module _ (lo w s e : ℕ) (p : s ≡ (range_of w).start) (q : e ≡ (range_of w).end) where
-  pub early : s < lo → false ≡ fits_b lo (range_of w)
-  early h = rw (← p, lt-leb lo s h)
-
-  pub bare : lo ≤ s → e ≤ s → false ≡ fits_b lo (range_of w)
-  bare h k = rw (← p, ← q, le-leb lo s h, le-ltb s e k)
-
-  pub of-kinds : lo ≤ s → s < e → leb (w / 256 % 4) 2 ≡ fits_b lo (range_of w)
-  of-kinds h k = rw (← p, ← q, le-leb lo s h, lt-ltb s e k, of-kind w)
-
--- what is tested so far, and what is left to test
-pub record Valid (xs : List ℕ) (n lo i : ℕ) : Type 0 where
-  pub few : n ≤ length xs
-  pub upto : i ≤ n
-  pub test : order_b 0 (ranges (take n xs)) ≡ order_b lo (ranges (drop i (take n xs)))
-
-module _ (xs : List ℕ) (n lo i : ℕ) (st : Valid xs n lo i) where
-  module _ (h : i < n) (b : Bool) (e : b ≡ fits_b lo (range_of (get_or xs i 0))) where
-    pub valid-on : b ≡ true → (z : ℕ) → z ≡ (range_of (get_or xs i 0)).end → Valid xs n z (i + 1)
-    valid-on t z q = record {
-      few = st.few;
-      upto = omega arith;
-      test = rw q (rw (peel xs n i 0 h st.few, ← e, t) at st.test);
-    }
-
-    pub valid-stop : b ≡ false → false ≡ order_b 0 (ranges (take n xs))
-    valid-stop t = sym (rw (peel xs n i 0 h st.few, ← e, t) at st.test)
-
-  pub valid-end : n ≤ i → leb lo 1440 ≡ order_b 0 (ranges (take n xs))
-  valid-end h = sym (rw (peeled xs n i h) at st.test)

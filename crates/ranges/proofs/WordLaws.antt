@@ -1,12 +1,11 @@
 -- Words and the ranges that they hold: one law for each field, both round trips, and the words of what is cut and joined.
 use mathlib.Core.Path.{◌≡◌, refl, sym, ◌∙◌}
-use mathlib.Core.Bool.{Bool, false}
 use mathlib.Core.List.{List, [], ◌∷◌, map}
 use Prim.Native.Nat.{ℕ, ◌+◌, ◌*◌, ◌/◌, ◌%◌, ◌<◌}
 use native.Mathlib.Omega.{arith}
 use lib.Dec.{eqb}
 use borrow.Author.Tests.{eq-eqb, ne_eqb}
-use Rattle.ranges.specs.Range.{Range, same, touch, hull, between}
+use Rattle.ranges.specs.Range.{Range, same, between}
 use Rattle.ranges.specs.Words.{range_of, word_of}
 use Rattle.ranges.proofs.Cases.{by-eq}
 
@@ -54,24 +53,15 @@ of_word r h k i j =
 pub of_range : (w : ℕ) → word_of (range_of w) ≡ w
 of_range w = rw (of-start w, of_end w, of-kind w, of-comment w) (omega arith)
 
-pub hull-is : (a b v s e : ℕ) → s ≡ (range_of a).start → e ≡ (range_of b).end → range_of v ≡ between s e (range_of a) → range_of v ≡ hull (range_of a) (range_of b)
-hull-is a b v s e h k q = rw (← h, ← k) q
-
 -- the low ten bits are the state
-pub same-is : (a b : ℕ) → eqb (a % 1024) (b % 1024) ≡ same (range_of a) (range_of b)
-same-is a b =
+pub same_is : (a b : ℕ) → eqb (a % 1024) (b % 1024) ≡ same (range_of a) (range_of b)
+same_is a b =
     rw (of-kind a, of-kind b, of-comment a, of-comment b)
     (by-eq (a / 256 % 4) (b / 256 % 4)
     (λ h. rw (eq-eqb (a / 256 % 4) (b / 256 % 4) h) (by-eq (a % 256) (b % 256)
     (λ k. rw (eq-eqb (a % 256) (b % 256) k) (eq-eqb (a % 1024) (b % 1024) (omega arith)))
     (λ k. rw (ne_eqb (a % 256) (b % 256) k) (ne_eqb (a % 1024) (b % 1024) (λ i. k (omega arith))))))
     (λ h. rw (ne_eqb (a / 256 % 4) (b / 256 % 4) h) (ne_eqb (a % 1024) (b % 1024) (λ i. h (omega arith)))))
-
-pub touch-on : (a b s e : ℕ) → e ≡ (range_of a).end → s ≡ (range_of b).start → e ≡ s → (q : Bool) → q ≡ same (range_of a) (range_of b) → q ≡ touch (range_of a) (range_of b)
-touch-on a b s e p q h d i = rw (← p, ← q, eq-eqb e s h) i
-
-pub touch-off : (a b s e : ℕ) → e ≡ (range_of a).end → s ≡ (range_of b).start → (e ≡ s → ⊥) → false ≡ touch (range_of a) (range_of b)
-touch-off a b s e p q h = rw (← p, ← q, ne_eqb e s h)
 
 -- a list of words, through its ranges
 pub words_back : (l : List ℕ) → map word_of (map range_of l) ≡ l

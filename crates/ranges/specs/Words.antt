@@ -1,5 +1,5 @@
 -- A range as a word: start 11 bits, end 11, kind 2, comment 8.
-use Rattle.std.specs.Prelude.{◌≡◌, List, ◌++◌, map, ℕ, ◌+◌, ◌*◌, ◌/◌, ◌%◌, take, drop}
+use Rattle.std.specs.Prelude.{◌≡◌, List, ◌++◌, map, ℕ, ◌+◌, ◌*◌, ◌/◌, ◌%◌, length, drop}
 use Rattle.ranges.specs.Range.{Range}
 
 unfoldable pub range_of : ℕ → Range
@@ -11,6 +11,6 @@ word_of r = r.start * 2097152 + r.end * 1024 + r.kind * 256 + r.comment
 abbrev pub ranges : List ℕ → List Range
 ranges l = map range_of l
 
--- ys is zs with the first n words of xs in front
-pub record Copied (xs : List ℕ) (n : ℕ) (zs ys : List ℕ) : Type 0 where
-  pub is : ys ≡ take n xs ++ drop n zs
+-- ys is zs with the words xs in front
+pub record Copied (xs zs ys : List ℕ) : Type 0 where
+  pub is : ys ≡ xs ++ drop (length xs) zs

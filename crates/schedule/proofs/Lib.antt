@@ -1,3 +1,4 @@
+pub mod Backwards
 pub mod Adding
 pub mod Building
 pub mod Dropping

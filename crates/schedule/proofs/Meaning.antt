@@ -1,6 +1,7 @@
 -- What the answers mean: what a schedule shows at a minute, and that every schedule reached is sound.
 use mathlib.Core.Path.{◌≡◌, ap, ◌∙◌}
 use mathlib.Core.Bool.{true, cond}
+use Rattle.std.specs.Prelude.{Ok}
 use mathlib.Core.List.{List, [], ◌∷◌, map}
 use Prim.Native.Nat.{ℕ, ◌-◌, ◌≤◌, ◌<◌}
 use native.Mathlib.Omega.{arith}
@@ -80,17 +81,14 @@ record Holds (s : Schedule) (l : List Range) : Type 0 where
 holds : (l : List Range) → InOrder 0 l 1440 → Each State l → length l ≤ 64 → Holds (made l) l
 holds l o e h = record { is = view_made l o e; sound = made-sound l o e h }
 
-pub no-refusal : {G : Type 0} (n : ℕ) → 0 < n → n ≡ 0 → G
-no-refusal n h e = absurd (omega arith)
-
 -- an accepted addition
 record Sum (a b s : Schedule) : Type 0 where
   first : Sound a
   second : Sound b
   result : Holds s (add_r (view a) (view b))
 
-sum_of : (a b : Schedule) → (addition_of a b).refusal ≡ 0 → Sum a b (addition_of a b).schedule
-sum_of a b z =
+sum_of : (a b s : Schedule) → addition_of a b ≡ Ok s → Sum a b s
+sum_of a b s z =
     by (valid a)
     (λ p. by (valid b)
     (λ q. let l = add_r (view a) (view b) in
@@ -98,7 +96,9 @@ sum_of a b z =
     (λ r.
     let u = valid-sound a p in
     let v = valid-sound b q in
-    rw (p, q, r) (record {
+    let is = rw (p, q, r) at z in
+    let e : made l ≡ s = cc in
+    rw (← e) (record {
       first = u;
       second = v;
       result = holds l
@@ -106,23 +106,23 @@ sum_of a b z =
           (each-add State (view a) (view b) (states-of (take a.len a.words) u.kinds) (states-of (take b.len b.words) v.kinds))
           (leb-true _ _ r);
     }))
-    (λ r. no-refusal 8 (omega arith) (rw (p, q, r) at z)))
-    (λ q. no-refusal 10 (omega arith) (rw (p, q) at z)))
-    (λ p. no-refusal 10 (omega arith) (rw p at z))
+    (λ r. let is = rw (p, q, r) at z in cc))
+    (λ q. let is = rw (p, q) at z in cc))
+    (λ p. let is = rw p at z in cc)
 
 -- THEOREM: at every minute an addition shows the second's state where it shows something, else the first's
-pub addition-shows : (a b : Schedule) → (addition_of a b).refusal ≡ 0 → (t : ℕ) → state_at (view (addition_of a b).schedule) t ≡ over (state_at (view b) t) (state_at (view a) t)
-addition-shows a b z t =
-    let s = sum_of a b z in
-    ap (λ (l : List Range). state_at l t) s.result.is ∙ add_at (view a) (view b) t (in-full 0 1440 (view b) s.second.order)
+pub addition-shows : (a b s : Schedule) → addition_of a b ≡ Ok s → (t : ℕ) → state_at (view s) t ≡ over (state_at (view b) t) (state_at (view a) t)
+addition-shows a b s z t =
+    let q = sum_of a b s z in
+    ap (λ (l : List Range). state_at l t) q.result.is ∙ add_at (view a) (view b) t (in-full 0 1440 (view b) q.second.order)
 
 -- an accepted build
 record Runs (given : List ℕ) (k c : ℕ) (s : Schedule) : Type 0 where
   ends : ends_b (spans given) ≡ true
   result : Holds s (build_r k c (spans given))
 
-runs_of : (given : List ℕ) (k c : ℕ) → c < 256 → (build_of given k c).refusal ≡ 0 → Runs given k c (build_of given k c).schedule
-runs_of given k c h z =
+runs_of : (given : List ℕ) (k c : ℕ) → c < 256 → (s : Schedule) → build_of given k c ≡ Ok s → Runs given k c s
+runs_of given k c h s z =
     by (leb k 2)
     (λ p. by (both (leb (length given) 64) (ends_b (spans given)))
     (λ q.
@@ -131,32 +131,34 @@ runs_of given k c h z =
     let f = few-build k c (spans given) b.1 in
     let g = length-map given span_of in
     let n = leb-true (length given) 64 b.0 in
-    rw (p, q) (record {
+    let is = rw (p, q) at z in
+    let e : made l ≡ s = cc in
+    rw (← e) (record {
       ends = b.1;
       result = holds l (in-build k c (spans given) b.1) (each-build State k c (spans given) (leb-true k 2 p, h)) (omega arith);
     }))
-    (λ q. no-refusal 3 (omega arith) (rw (p, q) at z)))
-    (λ p. no-refusal 2 (omega arith) (rw p at z))
+    (λ q. let is = rw (p, q) at z in cc))
+    (λ p. let is = rw p at z in cc)
 
 -- THEOREM: a build shows its state exactly where some given span covers, and nothing elsewhere
-pub build-shows : (given : List ℕ) (k c : ℕ) → c < 256 → (build_of given k c).refusal ≡ 0 → (t : ℕ) → state_at (view (build_of given k c).schedule) t ≡ cond (covered_b (spans given) t) (shows k c) dark
-build-shows given k c h z t = ap (λ (l : List Range). state_at l t) (runs_of given k c h z).result.is ∙ build-at k c (spans given) t
+pub build-shows : (given : List ℕ) (k c : ℕ) → c < 256 → (s : Schedule) → build_of given k c ≡ Ok s → (t : ℕ) → state_at (view s) t ≡ cond (covered_b (spans given) t) (shows k c) dark
+build-shows given k c h s z t = ap (λ (l : List Range). state_at l t) (runs_of given k c h s z).result.is ∙ build-at k c (spans given) t
 
 -- THEOREM: the ranges of a build are maximal runs
-pub build-apart : (given : List ℕ) (k c : ℕ) → c < 256 → (build_of given k c).refusal ≡ 0 → Apart 0 (view (build_of given k c).schedule)
-build-apart given k c h z = let r = runs_of given k c h z in rw r.result.is (apart-build k c (spans given) r.ends)
+pub build-apart : (given : List ℕ) (k c : ℕ) → c < 256 → (s : Schedule) → build_of given k c ≡ Ok s → Apart 0 (view s)
+build-apart given k c h s z = let r = runs_of given k c h s z in rw r.result.is (apart-build k c (spans given) r.ends)
 
 -- and each is in the build's state
-pub build-one : (given : List ℕ) (k c : ℕ) → c < 256 → (build_of given k c).refusal ≡ 0 → Each (Is k c) (view (build_of given k c).schedule)
-build-one given k c h z = rw (runs_of given k c h z).result.is (one-build k c (spans given))
+pub build-one : (given : List ℕ) (k c : ℕ) → c < 256 → (s : Schedule) → build_of given k c ≡ Ok s → Each (Is k c) (view s)
+build-one given k c h s z = rw (runs_of given k c h s z).result.is (one-build k c (spans given))
 
 -- an accepted dropping
 record Dropped (s d : Schedule) : Type 0 where
   first : Sound s
   result : Holds d (drop_r (view s))
 
-dropped-of : (s : Schedule) → (drop_of s).refusal ≡ 0 → Dropped s (drop_of s).schedule
-dropped-of s z =
+dropped-of : (s d : Schedule) → drop_of s ≡ Ok d → Dropped s d
+dropped-of s d z =
     by (valid s)
     (λ p.
     let u = valid-sound s p in
@@ -164,28 +166,30 @@ dropped-of s z =
     let f = few-drop (view s) in
     let n = few-view s in
     let k = u.few in
-    rw p (record { first = u; result = holds (drop_r (view s)) (in-drop 0 1440 (view s) u.order) (each-drop State (view s) e) (omega arith) }))
-    (λ p. no-refusal 10 (omega arith) (rw p at z))
+    let is = rw p at z in
+    let same : made (drop_r (view s)) ≡ d = cc in
+    rw (← same) (record { first = u; result = holds (drop_r (view s)) (in-drop 0 1440 (view s) u.order) (each-drop State (view s) e) (omega arith) }))
+    (λ p. let is = rw p at z in cc)
   where
     few-view : (s : Schedule) → length (view s) ≤ s.len
     few-view s = rw (length-map (take s.len s.words) range_of, lib.ListN.length-take) (omega arith)
 
 -- THEOREM: dropping closed ranges changes no minute, holes being closed
-pub drop-shows : (s : Schedule) → (drop_of s).refusal ≡ 0 → (t : ℕ) → lit (state_at (view (drop_of s).schedule) t) ≡ lit (state_at (view s) t)
-drop-shows s z t =
-    let d = dropped-of s z in
-    ap (λ (l : List Range). lit (state_at l t)) d.result.is ∙ drop_at 0 1440 (view s) t d.first.order
+pub drop-shows : (s d : Schedule) → drop_of s ≡ Ok d → (t : ℕ) → lit (state_at (view d) t) ≡ lit (state_at (view s) t)
+drop-shows s d z t =
+    let q = dropped-of s d z in
+    ap (λ (l : List Range). lit (state_at l t)) q.result.is ∙ drop_at 0 1440 (view s) t q.first.order
 
 -- the schedules that accepted operations reach from the empty one
 pub data Reached : Schedule → Type 0 where
   none : Reached (made [])
-  built : (given : List ℕ) (k c : ℕ) → c < 256 → (build_of given k c).refusal ≡ 0 → Reached (build_of given k c).schedule
-  added : (a b : Schedule) → Reached a → Reached b → (addition_of a b).refusal ≡ 0 → Reached (addition_of a b).schedule
-  dropped : (s : Schedule) → Reached s → (drop_of s).refusal ≡ 0 → Reached (drop_of s).schedule
+  built : (given : List ℕ) (k c : ℕ) → c < 256 → (s : Schedule) → build_of given k c ≡ Ok s → Reached s
+  added : (a b : Schedule) → Reached a → Reached b → (s : Schedule) → addition_of a b ≡ Ok s → Reached s
+  dropped : (s : Schedule) → Reached s → (d : Schedule) → drop_of s ≡ Ok d → Reached d
 
 -- THEOREM: whatever is reached is sound
 pub reached-sound : (s : Schedule) → Reached s → Sound s
-reached-sound s none = made-sound [] (omega arith) tt (omega arith)
-reached-sound s (built given k c h z) = (runs_of given k c h z).result.sound
-reached-sound s (added a b p q z) = (sum_of a b z).result.sound
-reached-sound s (dropped d p z) = (dropped-of d z).result.sound
+reached-sound _ none = made-sound [] (omega arith) tt (omega arith)
+reached-sound _ (built given k c h s z) = (runs_of given k c h s z).result.sound
+reached-sound _ (added a b p q s z) = (sum_of a b s z).result.sound
+reached-sound _ (dropped s p d z) = (dropped-of s d z).result.sound

@@ -1,6 +1,8 @@
 -- A build is decided by what it shows: at the first run where two lists differ, one shows a state and the other nothing.
 use mathlib.Core.Path.{◌≡◌, refl, sym, ap, ◌∙◌}
 use mathlib.Core.Bool.{cond}
+use Rattle.std.specs.Prelude.{Ok}
+use Rattle.schedule.specs.declared.Schedule.{Schedule}
 use mathlib.Core.List.{List, [], ◌∷◌}
 use Prim.Native.Nat.{ℕ, suc, ◌≤◌, ◌<◌}
 use native.Mathlib.Omega.{arith}
@@ -58,8 +60,8 @@ one-run k c lo m hi (r ∷ a) (s ∷ b) o p d e u v h =
     ap (λ (y : Range). y ∷ a) q ∙ ap (λ (l : List Range). s ∷ l) z
 
 -- THEOREM: a build is the only list of maximal runs in its state that shows it exactly where some given span covers
-pub build-only : (given : List ℕ) (k c : ℕ) → c < 256 → (build_of given k c).refusal ≡ 0 → (l : List Range) → InOrder 0 l 1440 → Apart 0 l → Each (Is k c) l
-    → ((t : ℕ) → state_at l t ≡ cond (covered_b (spans given) t) (shows k c) dark) → l ≡ view (build_of given k c).schedule
-build-only given k c h z l o a e f =
-    one-run k c 0 0 1440 l (view (build_of given k c).schedule) o (reached-sound (build_of given k c).schedule (built given k c h z)).order a (build-apart given k c h z) e (build-one given k c h z)
-    (λ t i. f t ∙ sym (build-shows given k c h z t))
+pub build-only : (given : List ℕ) (k c : ℕ) → c < 256 → (s : Schedule) → build_of given k c ≡ Ok s → (l : List Range) → InOrder 0 l 1440 → Apart 0 l → Each (Is k c) l
+    → ((t : ℕ) → state_at l t ≡ cond (covered_b (spans given) t) (shows k c) dark) → l ≡ view s
+build-only given k c h s z l o a e f =
+    one-run k c 0 0 1440 l (view s) o (reached-sound s (built given k c h s z)).order a (build-apart given k c h s z) e (build-one given k c h s z)
+    (λ t i. f t ∙ sym (build-shows given k c h s z t))

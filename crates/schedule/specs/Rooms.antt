@@ -11,14 +11,12 @@ pub record Leaves (l : List Range) (ys : List ℕ) (hi r : ℕ) : Type 0 where
   pub list : ranges (take r ys) ≡ l
 
 -- each range that goes in may make two more
-pub record AddReady (xs : List ℕ) (n : ℕ) (bs : List ℕ) (m : ℕ) : Type 0 where
-  pub room : n + 2 * m ≤ length xs
-  pub few : m ≤ length bs
+pub record AddReady (xs : List ℕ) (n : ℕ) (bs : List ℕ) : Type 0 where
+  pub room : n + 2 * length bs ≤ length xs
   pub order : InOrder 0 (ranges (take n xs)) 1440
-  pub order' : InOrder 0 (ranges (take m bs)) 1440
+  pub order' : InOrder 0 (ranges bs) 1440
 
-pub record BuildReady (gs : List ℕ) (m kind : ℕ) (xs : List ℕ) : Type 0 where
-  pub few : m ≤ length gs
-  pub room : m < length xs
+pub record BuildReady (gs : List ℕ) (kind : ℕ) (xs : List ℕ) : Type 0 where
+  pub room : length gs < length xs
   pub kinds : kind ≤ 2
-  pub ends : ends_b (spans (take m gs)) ≡ true
+  pub ends : ends_b (spans gs) ≡ true

@@ -1,6 +1,11 @@
--- The bounds are the word's own.
-use native.Mathlib.Omega.{arith}
+-- The ranges in front and those behind are found by where they end.
+use Rattle.std.proofs.Common.{arith}
+use Rattle.std.proofs.lemmas.List.{take_rest}
+use Rattle.insertion.proofs.Planning.{planned_is}
 use Rattle.insertion.proofs.planned.Goals as goal
 
-pub planned_at-requires : goal.planned_at-requires
-planned_at-requires c = let P = c.requires in (P.0, (P.1.0, (c.start-s.ensures.0, (c.end-e.ensures.0, (omega (arith, c.start-s.ensures.0, c.end-e.ensures.0, P.1.1), (c.start-s.ensures.1, c.end-e.ensures.1))))))
+pub returns : goal.returns
+returns c =
+    planned_is _ _ _ _ _ _ _ _ c.requires.0 c.start-s.ensures.0 c.end-e.ensures.0 (omega (arith, c.start-s.ensures.0, c.end-e.ensures.0, c.requires.1))
+    c.passed-k.ensures.upto c.passed-k.ensures.low (simp take_rest at c.passed.ensures.upto) (simp take_rest at c.passed.ensures.low)
+    (simp take_rest at c.right_of-right.ensures) (simp take_rest at c.left_of-left.ensures)

@@ -1,10 +1,6 @@
 -- What is written so far and the merging of what is left make the whole.
 use Rattle.listing.proofs.Merging.{Merge}
-use Prim.Native.Nat.{◌-◌}
 use Rattle.listing.proofs.merge.Given as goal
 
 abbrev pub invariant-loop-i : goal.invariant-loop-i
-invariant-loop-i l = Merge l.initial.room l.n l.room l.cur l.m l.i
-
-abbrev pub decreases-loop-i : goal.decreases-loop-i
-decreases-loop-i l = l.n - l.i
+invariant-loop-i l = Merge l.initial.room l.n l.room l.current l.count l.i

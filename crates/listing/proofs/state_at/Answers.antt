@@ -1,16 +1,20 @@
-use Rattle.listing.proofs.Minutes.{seek_stop, seek-on, seek-end}
-use mathlib.Core.Path.{refl}
-use native.Mathlib.Omega.{arith}
+-- The first that covers the minute, or none.
+use Rattle.std.proofs.Common.{rules, tests}
+use Rattle.std.proofs.lemmas.Iterator.{YieldsList-from_slice}
+use Rattle.std.proofs.lemmas.Iterator.Search.{find_from_yields_List}
+use Rattle.ranges.specs.States.{covers}
+use Rattle.ranges.specs.Words.{range_of}
+use Rattle.listing.proofs.Minutes.{shown_some, shown_none}
 use Rattle.listing.proofs.state_at.Goals as goal
 
-pub loop-i-init : goal.loop-i-init
-loop-i-init c = record { long = c.requires; upto = omega arith; same = refl }
+pub returns-in-Some : goal.returns-in-Some
+returns-in-Some c =
+    let xs = c.args.words.now in
+    let e = find_from_yields_List (λ x. covers (range_of x) c.args.t) _ _ c.find.result c.find.ensures.ran (YieldsList-from_slice xs (cc)) (λ x b q k. search (rules, tests)) in
+    shown_some c.args.t xs _ (rw c.in-Some.is at e)
 
-pub returns-then-covers_minute : goal.returns-then-covers_minute
-returns-then-covers_minute c = seek_stop _ _ _ _ c.loop-i.invariant c.loop-i-test.true _ c.covers_minute.ensures c.if-covers_minute.true
-
-pub loop-i-preserved : goal.loop-i-preserved
-loop-i-preserved c = seek-on _ _ _ _ c.loop-i.invariant c.loop-i-test.true _ c.covers_minute.ensures c.if-covers_minute.false
-
-pub returns : goal.returns
-returns c = seek-end _ _ _ _ c.loop-i.invariant c.loop-i-test.false
+pub returns-in-None : goal.returns-in-None
+returns-in-None c =
+    let xs = c.args.words.now in
+    let e = find_from_yields_List (λ x. covers (range_of x) c.args.t) _ _ c.find.result c.find.ensures.ran (YieldsList-from_slice xs (cc)) (λ x b q k. search (rules, tests)) in
+    shown_none c.args.t xs (rw c.in-None.is at e)

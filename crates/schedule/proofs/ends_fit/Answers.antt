@@ -1,13 +1,8 @@
-use Rattle.schedule.proofs.Building.{ends_on, ends-all}
-use mathlib.Core.Path.{refl}
-use native.Mathlib.Omega.{arith}
+use Rattle.std.proofs.Common.{rules, tests, ◌∙◌}
+use Rattle.std.proofs.lemmas.Iterator.{YieldsList-from_slice}
+use Rattle.std.proofs.lemmas.Iterator.Search.{all_from_yields_List}
+use Rattle.schedule.proofs.Building.{ends_all}
 use Rattle.schedule.proofs.ends_fit.Goals as goal
 
-pub loop-i-init : goal.loop-i-init
-loop-i-init c = record { upto = omega arith; test = refl }
-
-pub loop-i-preserved : goal.loop-i-preserved
-loop-i-preserved c = ends_on _ _ c.loop-i.invariant c.loop-i-test.true (omega arith)
-
 pub returns : goal.returns
-returns c = ends-all _ _ c.loop-i.invariant c.loop-i-test.false
+returns c = all_from_yields_List _ _ _ _ c.all.ensures.ran (YieldsList-from_slice c.args.given.now (cc)) (λ x b q k. search (rules, tests)) ∙ ends_all c.args.given.now
