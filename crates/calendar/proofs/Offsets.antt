@@ -1,35 +1,13 @@
--- Signed day arithmetic at 32 bits, as sums and differences of naturals: one law for each direction, cited at every cast. Offsets of at most 366 days, at 16 bits and then at 32.
+-- How far an offset moves a day, and that an offset of at most 366 days stays the same at 16 bits and at 32.
 -- Assumes nothing.
-use mathlib.Core.Path.{◌≡◌, refl, ap, sym, ◌∙◌, subst}
-use Prim.Native.Nat.{ℕ, zero, suc, ◌+◌, ◌^◌, ◌≤◌, ◌<◌}
+use mathlib.Core.Path.{◌≡◌, ap, sym, ◌∙◌, subst}
+use Prim.Native.Nat.{ℕ, ◌+◌, ◌≤◌}
 use native.Mathlib.Omega.{arith}
-use borrow.Author.Tests.{le-ltb}
-use lib.IntN.{ℤ, pos, negsuc, nat_abs, ◌+ℤ◌, ◌-ℤ◌}
+use lib.IntN.{ℤ, pos, negsuc, nat_abs}
 use mir.Syntax.{w16, w32}
 use mir.Val.{SFits, to_z, of_z}
 use mir.Facts.{to_z-of_z, to_z_pos}
 use Rattle.calendar.specs.Moved.{moved, moved_back}
-
--- a sum or difference that does not fall below 0 is a natural
-plus : (n : ℕ) (z : ℤ) → nat_abs z ≤ n → pos n +ℤ z ≡ pos (moved n z)
-plus n (pos k) h = refl
-plus n (negsuc k) h = simp (le-ltb n (suc k) h)
-
-minus : (n : ℕ) (z : ℤ) → nat_abs z ≤ n → pos n -ℤ z ≡ pos (moved_back n z)
-minus n (pos zero) h = ap pos (omega arith)
-minus n (pos (suc k)) h = simp (le-ltb n (suc k) h)
-minus n (negsuc k) h = refl
-
--- so it is at 32 bits, where the operands stand as bits
-pub plus32 : (n : ℕ) (z : ℤ) → n < 2 ^ 31 → SFits w32 z → nat_abs z ≤ n → to_z w32 n +ℤ to_z w32 (of_z w32 z) ≡ pos (moved n z)
-plus32 n z h f k = rw (to_z_pos w32 h, to_z-of_z f) (plus n z k)
-
-pub minus32 : (n : ℕ) (z : ℤ) → n < 2 ^ 31 → SFits w32 z → nat_abs z ≤ n → to_z w32 n -ℤ to_z w32 (of_z w32 z) ≡ pos (moved_back n z)
-minus32 n z h f k = rw (to_z_pos w32 h, to_z-of_z f) (minus n z k)
-
--- and a natural that is written as bits is read back
-pub back32 : (k : ℕ) → k < 2 ^ 31 → to_z w32 (of_z w32 (pos k)) ≡ pos k
-back32 k h = to_z-of_z {w = w32} {z = pos k} (record { sfits = h })
 
 -- an offset moves a day by no more than its size
 pub moved-high : (n : ℕ) (z : ℤ) → moved n z ≤ n + nat_abs z

@@ -6,80 +6,74 @@ ghost use Rattle.calendar.specs.Calendar.{leap, month_length, before_month, befo
 ghost use Rattle.calendar.specs.Moved.{moved, moved_back};
 ghost use Rattle.calendar.specs.Parts.{Settled, InCycle, InMonth};
 
-pub fn is_leap(y: u32) -> bool
-    ensures { result ≡ leap y }
+#[tactic(auto, unfolding(crate::specs::Calendar::leap))]
+pub fn is_leap(year: u32) -> bool
+    ensures { result ≡ leap year }
 {
-    if y % 100 == 0 {
-        y % 400 == 0
+    if year % 100 == 0 {
+        year % 400 == 0
     } else {
-        y % 4 == 0
+        year % 4 == 0
     }
 }
 
-// The days of each month, and the days before it, at the month's own number.
-const LENGTH_COMMON: [u32; 13] = [0, 31, 28, 31, 30, 31, 30, 31, 31, 30, 31, 30, 31];
-
-const LENGTH_LEAP: [u32; 13] = [0, 31, 29, 31, 30, 31, 30, 31, 31, 30, 31, 30, 31];
-
-const BEFORE_COMMON: [u32; 14] = [
-    0, 0, 31, 59, 90, 120, 151, 181, 212, 243, 273, 304, 334, 365,
+// The days of each month, and the days before it, at the month's own number: of a common year, then of a leap year.
+const LENGTHS: [[u32; 13]; 2] = [
+    [0, 31, 28, 31, 30, 31, 30, 31, 31, 30, 31, 30, 31],
+    [0, 31, 29, 31, 30, 31, 30, 31, 31, 30, 31, 30, 31],
 ];
 
-const BEFORE_LEAP: [u32; 14] = [
-    0, 0, 31, 60, 91, 121, 152, 182, 213, 244, 274, 305, 335, 366,
+const BEFORE: [[u32; 14]; 2] = [
+    [
+        0, 0, 31, 59, 90, 120, 151, 181, 212, 243, 273, 304, 334, 365,
+    ],
+    [
+        0, 0, 31, 60, 91, 121, 152, 182, 213, 244, 274, 305, 335, 366,
+    ],
 ];
 
-pub fn month_length(leap: bool, m: u32) -> u32
-    requires { m < 13 }
-    ensures { result ≡ month_length leap m }
+pub fn month_length(leap: bool, month: u32) -> u32
+    requires { month < 13 }
+    ensures { result ≡ month_length leap month }
 {
-    let i = m as usize;
-    if leap {
-        LENGTH_LEAP[i]
-    } else {
-        LENGTH_COMMON[i]
-    }
+    LENGTHS[leap as usize][month as usize]
 }
 
-pub fn before_month(leap: bool, m: u32) -> u32
-    requires { m < 14 }
-    ensures { result ≡ before_month leap m }
+pub fn before_month(leap: bool, month: u32) -> u32
+    requires { month < 14 }
+    ensures { result ≡ before_month leap month }
 {
-    let i = m as usize;
-    if leap {
-        BEFORE_LEAP[i]
-    } else {
-        BEFORE_COMMON[i]
-    }
+    BEFORE[leap as usize][month as usize]
 }
 
-pub fn year_length(y: u32) -> u32
-    ensures { result ≡ year_length (leap y) }
+#[tactic(auto, unfolding(crate::specs::Calendar::year_length))]
+pub fn year_length(year: u32) -> u32
+    ensures { result ≡ year_length (leap year) }
 {
-    if is_leap(y) { 366 } else { 365 }
+    if is_leap(year) { 366 } else { 365 }
 }
 
-// The days of the years before y: 365 of each, and one more of each leap year.
-pub fn before_year(y: u32) -> u32
-    requires { y ≤ 12010 }
-    ensures { result ≡ before_year y }
+// The days of the years before one: 365 of each, and one more of each leap year.
+pub fn before_year(year: u32) -> u32
+    requires { year ≤ 12010 }
+    ensures { result ≡ before_year year }
 {
-    let centuries = (y + 99) / 100;
-    365 * y + (y + 3) / 4 + (centuries + 3) / 4 - centuries
+    let centuries = (year + 99) / 100;
+    365 * year + (year + 3) / 4 + (centuries + 3) / 4 - centuries
 }
 
-#[derive(Clone, Copy)]
+#[derive(Clone, Copy, PartialEq, Eq)]
 pub struct Date {
     pub year: u32,
     pub month: u32,
     pub day: u32,
 }
 
-pub fn day_number(d: Date) -> u32
-    requires { (d.year ≤ 12010) × (d.month < 13) × (d.day < 32) }
-    ensures { result ≡ day_number d }
+pub fn day_number(date: Date) -> u32
+    requires { (date.year ≤ 12010) × (date.month < 13) × (date.day < 32) }
+    ensures { result ≡ day_number date }
 {
-    before_year(d.year) + before_month(is_leap(d.year), d.month) + d.day
+    before_year(date.year) + before_month(is_leap(date.year), date.month) + date.day
 }
 
 // A year and a day of it, from 1.
@@ -113,15 +107,15 @@ fn in_cycle(day: u32) -> YearDay
 }
 
 // The year that a day falls into, and its day there, from a year and a day counted on from that year's start.
-pub fn settle(y: u32, rest: u32) -> YearDay
-    requires { (1 ≤ rest) × (y ≤ 100000) × (rest ≤ 100000000) }
-    ensures { Settled (before_year y + rest) result.year result.day }
+pub fn settle(year: u32, rest: u32) -> YearDay
+    requires { (1 ≤ rest) × (year ≤ 100000) × (rest ≤ 100000000) }
+    ensures { Settled (before_year year + rest) result.year result.day }
 {
-    let past = y % 400;
-    let n = before_year(past) + rest - 1;
-    let at = in_cycle(n % CYCLE + 1);
+    let past = year % 400;
+    let passed = before_year(past) + rest - 1;
+    let at = in_cycle(passed % CYCLE + 1);
     YearDay {
-        year: y - past + n / CYCLE * 400 + at.year,
+        year: year - past + passed / CYCLE * 400 + at.year,
         day: at.day,
     }
 }
@@ -131,65 +125,66 @@ pub fn month_of(leap: bool, day: u32) -> u32
     requires { (1 ≤ day) × (day ≤ year_length leap) }
     ensures { InMonth leap day result }
 {
-    let m = (day - 1) / 31 + 1;
-    if before_month(leap, m + 1) < day {
-        m + 1
+    let month = (day - 1) / 31 + 1;
+    if before_month(leap, month + 1) < day {
+        month + 1
     } else {
-        m
+        month
     }
 }
 
 // The date with a number.
-pub fn date_of(n: u32) -> Date
-    requires { (1 ≤ n) × (n ≤ 100000000) }
-    ensures { result ≡ date_of n }
+pub fn date_of(number: u32) -> Date
+    requires { (1 ≤ number) × (number ≤ 100000000) }
+    ensures { result ≡ date_of number }
 {
-    let at = settle(0, n);
+    let at = settle(0, number);
     let leap = is_leap(at.year);
-    let m = month_of(leap, at.day);
+    let month = month_of(leap, at.day);
     Date {
         year: at.year,
-        month: m,
-        day: at.day - before_month(leap, m),
+        month,
+        day: at.day - before_month(leap, month),
     }
 }
 
-// The number of the day that lies a signed offset after day n.
-pub fn later(n: u32, off: i32) -> u32
-    requires { (366 < n) × (n < 10000000) × (nat_abs off ≤ 366) }
-    ensures { result ≡ moved n off }
+// The number of the day that lies a signed offset after a day.
+pub fn later(number: u32, offset: i32) -> u32
+    requires { (366 < number) × (number < 10000000) × (nat_abs offset ≤ 366) }
+    ensures { result ≡ moved number offset }
 {
-    ((n as i32) + off) as u32
+    ((number as i32) + offset) as u32
 }
 
-// The number of the day that lies a signed offset before day n.
-pub fn earlier(n: u32, off: i32) -> u32
-    requires { (366 < n) × (n < 10000000) × (nat_abs off ≤ 366) }
-    ensures { result ≡ moved_back n off }
+// The number of the day that lies a signed offset before a day.
+pub fn earlier(number: u32, offset: i32) -> u32
+    requires { (366 < number) × (number < 10000000) × (nat_abs offset ≤ 366) }
+    ensures { result ≡ moved_back number offset }
 {
-    ((n as i32) - off) as u32
+    later(number, -offset)
 }
 
 // 0 is Monday, 6 Sunday.
-pub fn weekday_of(n: u32) -> u32
-    requires { n < 10000000 }
-    ensures { result ≡ weekday n }
+#[tactic(auto, unfolding(crate::specs::Calendar::weekday))]
+pub fn weekday_of(number: u32) -> u32
+    requires { number < 10000000 }
+    ensures { result ≡ weekday number }
 {
-    (n + 4) % 7
+    (number + 4) % 7
 }
 
-// The ISO week of day n, which is day `day` of `year`: that of its week's Thursday, in the year before, in this one or in the next.
-pub fn iso_week(n: u32, year: u32, day: u32) -> u32
-    requires { Settled n year day × (1 ≤ year) × (year ≤ 100000) × (n < 10000000) }
-    ensures { result ≡ iso_week n }
+// The ISO week of the day of a number, which is day `day` of `year`: that of its week's Thursday, in the year before, in this one or in the next.
+pub fn iso_week(number: u32, year: u32, day: u32) -> u32
+    requires { Settled number year day × (1 ≤ year) × (year ≤ 100000) × (number < 10000000) }
+    ensures { result ≡ iso_week number }
 {
-    let w = weekday_of(n);
-    if day + 3 <= w {
-        return (day + 9 + year_length(year - 1) - w) / 7;
+    let weekday = weekday_of(number);
+    if day + 3 <= weekday {
+        return (day + 9 + year_length(year - 1) - weekday) / 7;
     }
-    let t = day + 3 - w;
-    if t <= year_length(year) {
-        return (t + 6) / 7;
+    let thursday = day + 3 - weekday;
+    if thursday <= year_length(year) {
+        return (thursday + 6) / 7;
     }
     1
 }

@@ -1,6 +1,10 @@
--- The difference of two day numbers at 32 bits, signed: it fits, and it is the difference.
+-- The difference of two day numbers at 32 bits, signed, is their difference; and it is refused where the first date is.
 -- Assumes nothing.
 use mathlib.Core.Path.{◌≡◌}
+use mathlib.Core.Bool.{Bool, true, false, ◌&&◌}
+use Rattle.std.specs.Prelude.{Err}
+use Rattle.refusals.specs.declared.Refusal.{Refusal}
+use Rattle.dates.specs.Answers.{answered}
 use Prim.Native.Nat.{ℕ, zero, suc, ◌^◌, ◌<◌}
 use native.Mathlib.Decide.{dec_lt}
 use native.Mathlib.Omega.{arith}
@@ -9,6 +13,11 @@ use lib.IntN.{pos, ◌-ℤ◌}
 use mir.Syntax.{w32}
 use mir.Val.{SFits, to_z, of_z}
 use mir.Facts.{to_z-of_z, to_z_pos}
+
+-- where the first of two is refused, so is what is asked of both
+pub first-refused : {A B : Type 0} (b c : Bool) (x : A) (y : B) (r : Refusal) → answered b x ≡ Err r → Err r ≡ answered (b && c) y
+first-refused true c x y r h = absurd (cc)
+first-refused false c x y r h = cc
 
 -- the difference of two small naturals, by its sign
 fits : (a b : ℕ) → a < 2 ^ 31 → b < 2 ^ 31 → SFits w32 (pos a -ℤ pos b)
@@ -20,9 +29,5 @@ fits a (suc b) h k = by_cases (dec_lt a (suc b))
     by_cases (no l) = simp (le-ltb a (suc b) (omega arith)) (record { sfits = omega arith })
 
 -- and of the same two as bits
-module _ (a b : ℕ) (h : a < 2 ^ 31) (k : b < 2 ^ 31) where
-  pub apart_fits : SFits w32 (to_z w32 a -ℤ to_z w32 b)
-  apart_fits = rw (to_z_pos w32 h, to_z_pos w32 k) (fits a b h k)
-
-  pub apart-is : to_z w32 (of_z w32 (to_z w32 a -ℤ to_z w32 b)) ≡ pos a -ℤ pos b
-  apart-is = rw (to_z_pos w32 h, to_z_pos w32 k) (to_z-of_z (fits a b h k))
+pub apart-is : (a b : ℕ) → a < 2 ^ 31 → b < 2 ^ 31 → to_z w32 (of_z w32 (to_z w32 a -ℤ to_z w32 b)) ≡ pos a -ℤ pos b
+apart-is a b h k = rw (to_z_pos w32 h, to_z_pos w32 k) (to_z-of_z (fits a b h k))

@@ -1,7 +1,7 @@
 -- What the test of a year, a month or a date says, in facts; and that every date of the years passes it.
 -- Assumes nothing.
-use mathlib.Core.Path.{◌≡◌}
-use mathlib.Core.Bool.{true, ◌&&◌, and-eq-true_iff}
+use mathlib.Core.Path.{◌≡◌, refl}
+use mathlib.Core.Bool.{Bool, true, false, ◌&&◌, and-eq-true_iff}
 use Prim.Native.Nat.{ℕ, ◌≤◌, ◌<◌}
 use native.Mathlib.Omega.{arith}
 use lib.Dec.{leb}
@@ -10,6 +10,11 @@ use Rattle.calendar.specs.Calendar.{leap, month_length, day_number, Valid}
 use Rattle.calendar.specs.declared.Date.{Date}
 use Rattle.calendar.proofs.Days.{years-high, year-high, length_high}
 use Rattle.calendar.proofs.Weeks.{of-date}
+use Rattle.std.specs.Prelude.{Ok, Err}
+use Rattle.refusals.specs.Numbers.{refused}
+use Rattle.refusals.specs.declared.Cause.TheVariants.{NoDate}
+use Rattle.refusals.specs.declared.Refusal.{Refusal}
+use Rattle.dates.specs.Answers.{answered, asked}
 use Rattle.dates.specs.Exists.{in_years, is_month, is_date}
 
 -- a number between two others
@@ -18,6 +23,15 @@ between lo n hi e = made ((and-eq-true_iff (leb lo n) (leb n hi)).0 e)
   where
     made : (leb lo n ≡ true) × (leb n hi ≡ true) → (lo ≤ n) × (n ≤ hi)
     made p = (leb-true lo n p.0, leb-true n hi p.1)
+
+-- what is answered is there, and what is not there is refused, whatever is asked of it
+pub answered-ok : {A : Type 0} (b : Bool) (x e : A) → answered b x ≡ Ok e → (x ≡ e) × (b ≡ true)
+answered-ok true x e h = (cc, refl)
+answered-ok false x e h = absurd (cc)
+
+pub answered-err : {A B : Type 0} (b : Bool) (x : A) (y : B) (r : Refusal) → answered b x ≡ Err r → Err r ≡ answered b y
+answered-err true x y r h = absurd (cc)
+answered-err false x y r h = cc
 
 -- a year of 1 to 12000
 pub year-there : (y : ℕ) → in_years y ≡ true → (1 ≤ y) × (y ≤ 12000)
@@ -65,6 +79,19 @@ module _ (d : Date) where
 
       made : (is_month d.year d.month ≡ true) × (leb 1 d.day && leb d.day len ≡ true) → DateThere d
       made p = facts (month-there d.year d.month p.0) (between 1 d.day len p.1)
+
+  -- a date that is answered is the one that was asked about, and exists
+  pub asked-there : (e : Date) → asked d ≡ Ok e → (d ≡ e) × DateThere e × (is_date e ≡ true)
+  unfolding asked
+  asked-there e h = same (answered-ok (is_date d) d e h)
+    where
+      same : (d ≡ e) × (is_date d ≡ true) → (d ≡ e) × DateThere e × (is_date e ≡ true)
+      same p = (p.0, rw p.0 at (date-there p.1), rw p.0 at p.1)
+
+  -- where it is refused, so is all that is asked of it
+  pub asked-refused : {A : Type 0} (x : A) (r : Refusal) → asked d ≡ Err r → Err r ≡ answered (is_date d) x
+  unfolding asked
+  asked-refused x r h = answered-err (is_date d) d x r h
 
   -- the other way: each date of these years passes, so that no other is refused
   pub passes : DateThere d → is_date d ≡ true

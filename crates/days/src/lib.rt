@@ -7,6 +7,8 @@ ghost use Rattle.calendar.specs.Parts.{Settled};
 ghost use Rattle.calendar.specs.Moved.{moved_back};
 ghost use Rattle.days.specs.DayOf.{day_of};
 
+use calendar::{Date, YearDay};
+
 // The number counts from 0000-01-01 = 1, the ordinal is the day of the year, the length is its month's, the week the ISO week.
 #[derive(Clone, Copy)]
 pub struct Day {
@@ -20,19 +22,19 @@ pub struct Day {
     pub week: u32,
 }
 
-// The day of number n, which is day `ordinal` of `year`.
-fn day_in(n: u32, year: u32, ordinal: u32) -> Day
-    requires { Settled n year ordinal × (1 ≤ year) × (year ≤ 100000) × (n < 10000000) }
-    ensures { result ≡ day_of n }
+// The day of a number, which is day `ordinal` of `year`.
+fn day_in(number: u32, year: u32, ordinal: u32) -> Day
+    requires { Settled number year ordinal × (1 ≤ year) × (year ≤ 100000) × (number < 10000000) }
+    ensures { result ≡ day_of number }
 {
     let leap = calendar::is_leap(year);
     let month = calendar::month_of(leap, ordinal);
     let day = ordinal - calendar::before_month(leap, month);
     let length = calendar::month_length(leap, month);
-    let weekday = calendar::weekday_of(n);
-    let week = calendar::iso_week(n, year, ordinal);
+    let weekday = calendar::weekday_of(number);
+    let week = calendar::iso_week(number, year, ordinal);
     Day {
-        number: n,
+        number,
         year,
         ordinal,
         month,
@@ -44,7 +46,7 @@ fn day_in(n: u32, year: u32, ordinal: u32) -> Day
 }
 
 // The day of a date.
-pub fn day_on(date: calendar::Date) -> Day
+pub fn day_on(date: Date) -> Day
     requires { Valid date × (1 ≤ date.year) × (date.year ≤ 12010) }
     ensures { result ≡ day_of (day_number date) }
 {
@@ -56,31 +58,31 @@ pub fn day_on(date: calendar::Date) -> Day
     )
 }
 
-// The year and its day of day n, from those of a day that is at most 366 later.
-fn settle_near(n: u32, number: u32, year: u32, ordinal: u32) -> calendar::YearDay
-    requires { Settled number year ordinal × (2 ≤ year) × (year ≤ 90000) × (number ≤ n + 366) × (1 ≤ n) × (n < 10000000) }
-    ensures { Settled n result.year result.day }
+// The year and its day of a number, from a day that is at most 366 later.
+fn settle_near(number: u32, day: Day) -> YearDay
+    requires { Settled day.number day.year day.ordinal × (2 ≤ day.year) × (day.year ≤ 90000) × (day.number ≤ number + 366) × (1 ≤ number) × (number < 10000000) }
+    ensures { Settled number result.year result.day }
 {
-    let base = year - 2;
+    let base = day.year - 2;
     let first = calendar::year_length(base);
     let second = calendar::year_length(base + 1);
-    calendar::settle(base, first + second + ordinal + n - number)
+    calendar::settle(base, first + second + day.ordinal + number - day.number)
 }
 
-// The day that lies a signed offset before d. From day 733 on, what lies 366 days before is still in the year 1.
-pub fn back(d: Day, off: i32) -> Day
-    requires { (d ≡ day_of d.number) × (733 ≤ d.number) × (d.number < 5000000) × (nat_abs off ≤ 366) }
-    ensures { result ≡ day_of (moved_back d.number off) }
+// The day that lies a signed offset before a day. From day 733 on, what lies 366 days before is still in the year 1.
+pub fn back(day: Day, offset: i32) -> Day
+    requires { (day ≡ day_of day.number) × (733 ≤ day.number) × (day.number < 5000000) × (nat_abs offset ≤ 366) }
+    ensures { result ≡ day_of (moved_back day.number offset) }
 {
-    let n = calendar::earlier(d.number, off);
-    let at = settle_near(n, d.number, d.year, d.ordinal);
-    day_in(n, at.year, at.day)
+    let number = calendar::earlier(day.number, offset);
+    let at = settle_near(number, day);
+    day_in(number, at.year, at.day)
 }
 
 // Yesterday.
-pub fn day_before(d: Day) -> Day
-    requires { (d ≡ day_of d.number) × (733 ≤ d.number) × (d.number < 5000000) }
-    ensures { result ≡ day_of (d.number - 1) }
+pub fn day_before(day: Day) -> Day
+    requires { (day ≡ day_of day.number) × (733 ≤ day.number) × (day.number < 5000000) }
+    ensures { result ≡ day_of (day.number - 1) }
 {
-    back(d, 1)
+    back(day, 1)
 }

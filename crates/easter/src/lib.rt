@@ -7,13 +7,14 @@ ghost use Rattle.easter.specs.Easter.{easter_number};
 
 use calendar::Date;
 
-pub fn easter(y: u32) -> Date
-    requires { y ≤ 12000 }
-    ensures { result ≡ date_of (easter_number y) }
+// The letters are those that the formula is published with.
+pub fn easter(year: u32) -> Date
+    requires { year ≤ 12000 }
+    ensures { result ≡ date_of (easter_number year) }
 {
-    let a = y % 19;
-    let b = y / 100;
-    let c = y % 100;
+    let a = year % 19;
+    let b = year / 100;
+    let c = year % 100;
     let d = b / 4;
     let e = b % 4;
     let f = (b + 8) / 25;
@@ -25,7 +26,7 @@ pub fn easter(y: u32) -> Date
     let m = (a + 11 * h + 22 * l) / 451;
     let v = h + l + 114 - 7 * m;
     Date {
-        year: y,
+        year,
         month: v / 31,
         day: v % 31 + 1,
     }

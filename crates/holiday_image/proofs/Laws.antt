@@ -9,7 +9,7 @@ use native.Mathlib.Nat.{zero-div, add-zero}
 use native.Mathlib.Omega.{arith}
 use lib.Dec.{eqb, leb, ltb}
 use lib.ListN.{length}
-use borrow.Author.Tests.{eq-eqb, ne_eqb, eqb-true, leb-true, ltb-true, le-leb, lt-leb}
+use borrow.Author.Tests.{eq-eqb, ne_eqb, eqb-true, leb-true, ltb-true}
 use Rattle.bits.specs.Bits.{bits, bit_at}
 use Rattle.bits.proofs.BitsLaws.{bits-lt, bits-add}
 use Rattle.calendar.specs.Calendar.{leap, month_length}
@@ -57,25 +57,6 @@ pub slot_is : (s : List ℕ) → bits s 22 2 ≡ slot_of s
 unfolding slot_of school_flag unknown_flag
 slot_is s = omega (arith, bits-add s 22 1 1)
 
--- the years fit: one law for each way the test ends
-
-module _ (f n : ℕ) where
-  pub fit-early : f < 1900 → false ≡ years_fit f n
-  unfolding years_fit
-  fit-early h = rw (lt-leb 1900 f h)
-
-  pub fit-late : 1900 ≤ f → 9999 < f → false ≡ years_fit f n
-  unfolding years_fit
-  fit-late h k = rw (le-leb 1900 f h, lt-leb f 9999 k)
-
-  pub fit-many : 1900 ≤ f → f ≤ 9999 → 200 < n → false ≡ years_fit f n
-  unfolding years_fit
-  fit-many h k l = rw (le-leb 1900 f h, le-leb f 9999 k, lt-leb n 200 l)
-
-  pub fit-last : 1900 ≤ f → f ≤ 9999 → n ≤ 200 → leb (f + n - 1) 9999 ≡ years_fit f n
-  unfolding years_fit
-  fit-last h k l = rw (le-leb 1900 f h, le-leb f 9999 k, le-leb n 200 l)
-
 record Fitting (f n : ℕ) : Type 0 where
   low : 1900 ≤ f
   high : f ≤ 9999
@@ -118,9 +99,6 @@ formed s e =
 
 fit-said : (s : List ℕ) (ys : Years) → YearsOf s ys → years_fit ys.first ys.count ≡ years_fit (first_year s) (year_count s)
 fit-said s ys e = ap (λ (f : ℕ). years_fit f ys.count) e.first_is ∙ ap (years_fit (first_year s)) e.count_is
-
-pub form-no : (s : List ℕ) (ys : Years) (b : Bool) → YearsOf s ys → b ≡ years_fit ys.first ys.count → b ≡ false → false ≡ form_of s
-form-no s ys b y f e = rw (← fit-said s ys y, ← f, e)
 
 same_length : (s : List ℕ) (n : ℕ) → n ≡ year_count s → eqb (length s) ((24 + 372 * n + 7) / 8) ≡ exact_length s
 unfolding exact_length
@@ -180,6 +158,10 @@ module _ (s : List ℕ) (h : 0 < length s) where
   pub slot-yes : sound s ≡ true → (slot : ℕ) → eqb (slot_of s) slot ≡ sound_in s slot
   unfolding sound_in
   slot-yes e slot = rw (ne_eqb (length s) 0 (λ f. omega arith), e)
+
+pub some-byte : (s : List ℕ) → eqb (length s) 0 ≡ false → 0 < length s
+some-byte [] e = absurd (cc)
+some-byte (b ∷ s) e = omega arith
 
 pub slot-empty : (s : List ℕ) → length s ≡ 0 → (slot : ℕ) → true ≡ sound_in s slot
 unfolding sound_in
@@ -241,12 +223,6 @@ pub has-in-years : (s : List ℕ) (ys : Years) (y m : ℕ) (b : Bool) → YearsO
     → 1 ≤ m → m ≤ 12 → InYears s y m
 has-in-years s ys y m b e f g l h = in-years s y m (sym (has-said s ys y e) ∙ (sym f ∙ g)) l h
 
-pub has_in : (a y b : ℕ) → a ≤ y → ltb y b ≡ (leb a y && ltb y b)
-has_in a y b h = rw (le-leb a y h)
-
-pub has-out : (a y b : ℕ) → y < a → false ≡ (leb a y && ltb y b)
-has-out a y b h = rw (lt-leb a y h)
-
 pub contains-in : (s : List ℕ) (ys : Years) (d : Date) (b : Bool) (k r : ℕ) → YearsOf s ys
     → b ≡ (leb ys.first d.year && ltb d.year (ys.first + ys.count)) → b ≡ true
     → k ≡ month_bit ys.first d.year d.month → r ≡ bits s (k + (d.day - 1)) 1 → eqb r 1 ≡ names s d
@@ -258,10 +234,6 @@ contains-in s ys d b k r y e g h i =
 pub contains-out : (s : List ℕ) (ys : Years) (d : Date) (b : Bool) → YearsOf s ys
     → b ≡ (leb ys.first d.year && ltb d.year (ys.first + ys.count)) → b ≡ false → false ≡ names s d
 contains-out s ys d b y e g = named-out s d (sym (has-said s ys d.year y) ∙ (sym e ∙ g))
-
--- a month's bits, from where they begin
-pub days-said : (s : List ℕ) (f y m at r : ℕ) → f ≡ first_year s → at ≡ month_bit f y m → r ≡ bits s at 31 → r ≡ bits s (month_bit (first_year s) y m) 31
-days-said s f y m at r h g e = rw (e, g, h)
 
 -- the tests of a month and of a year, from what their parts give
 pub behind-said : (s : List ℕ) (at : ℕ) (l : Bool) (m k r : ℕ) → k ≡ month_length l m → r ≡ bits s (at + k) (31 - k) → eqb r 0 ≡ eqb (behind_month s at l m) 0
@@ -285,9 +257,9 @@ pub year-yes : (s : List ℕ) (y m : ℕ) → m ≤ 12 → 12 ≤ m → every (r
 unfolding real_year
 year-yes s y m l h e = let g : m ≡ 12 = omega arith in sym (rw g at e)
 
-pub kth-said : (s : List ℕ) (k f : ℕ) (r : Bool) → f ≡ first_year s → r ≡ real_year s (f + k - 1) → r ≡ real_kth s k
+pub kth-said : (s : List ℕ) (y f : ℕ) (r : Bool) → f ≡ first_year s → f ≤ y → r ≡ real_year s y → r ≡ real_kth s (y - f + 1)
 unfolding real_kth
-kth-said s k f r e h = rw (h, e)
+kth-said s y f r e l h = let g : first_year s + (y - f + 1) - 1 ≡ y = omega arith in rw g h
 
 pub days-no : (s : List ℕ) (k n : ℕ) → n ≡ year_count s → 1 ≤ k → k ≤ n → real_kth s k ≡ false → false ≡ real_days s
 unfolding real_days

@@ -2,7 +2,7 @@
 -- Assumes nothing.
 use mathlib.Core.Path.{◌≡◌, refl, sym, ◌∙◌, subst}
 use mathlib.Core.Bool.{Bool, true, false, ◌&&◌, false≢true}
-use Prim.Native.Nat.{ℕ, zero, suc, ◌+◌, ◌≤◌, ◌<◌}
+use Prim.Native.Nat.{ℕ, zero, suc, ◌+◌, ◌-◌, ◌≤◌, ◌<◌}
 use native.Mathlib.Decide.{ℕ_discrete}
 use native.Mathlib.Numerals.{add-one}
 use native.Mathlib.Omega.{arith}
@@ -34,6 +34,13 @@ split {G} a b f g = go (ltb a b) refl
 pub every_more : (p : ℕ → Bool) (n : ℕ) → every p n ≡ true → p (n + 1) ≡ true → every p (n + 1) ≡ true
 unfolding every
 every_more p n h k = rw (add-one n) (rw h (rw (add-one n) at k))
+
+-- the same, counted one later
+pub every_next : (p : ℕ → Bool) (n : ℕ) → 1 ≤ n → every p (n - 1) ≡ true → p n ≡ true → every p (n + 1 - 1) ≡ true
+every_next p n l h k =
+    let e : n + 1 - 1 ≡ n - 1 + 1 = omega arith in
+    let f : n - 1 + 1 ≡ n = omega arith in
+    rw e (every_more p (n - 1) h (rw f k))
 
 -- a test that fails once fails
 pub every-no : (p : ℕ → Bool) (n k : ℕ) → 1 ≤ k → k ≤ n → p k ≡ false → every p n ≡ false

@@ -1,41 +1,32 @@
--- The judgement of one image and of four, one law for each way that it ends.
+-- What the check of an image says of it, and that where it refuses, so does what begins with it.
 -- Assumes nothing.
-use mathlib.Core.Path.{◌≡◌}
-use mathlib.Core.Bool.{true, false}
-use mathlib.Core.List.{List}
-use Prim.Native.Nat.{ℕ}
+use Rattle.std.proofs.Common.{◌≡◌, ℕ, List, Bool, true, false, cond, refl}
+use Rattle.std.specs.Prelude.{Result, Ok, Err}
+use Rattle.refusals.specs.Numbers.{refused}
+use Rattle.refusals.specs.declared.Cause.TheVariants.{BadHolidays}
+use Rattle.refusals.specs.declared.Refusal.{Refusal}
 use Rattle.holiday_image.specs.Image.{sound, sound_in}
-use Rattle.holidays.specs.declared.Checked.{Checked}
-use Rattle.holidays.specs.Answers.{check_answer, slots_answer}
+use Rattle.holidays.specs.Answers.{check_answer, slot_answer}
 
-module _ (s : List ℕ) where
-  pub check-yes : sound s ≡ true → Checked.Sound ≡ check_answer s
-  unfolding check_answer
-  check-yes e = rw e
+abbrev judged : Bool → ℕ → Result (Unit {0}) Refusal
+judged b k = cond b (Ok tt) (refused BadHolidays k)
 
-  pub check-no : sound s ≡ false → Checked.Refused 5 0 ≡ check_answer s
-  unfolding check_answer
-  check-no e = rw e
+judged-ok : (b : Bool) (k : ℕ) (u : Unit {0}) → judged b k ≡ Ok u → b ≡ true
+judged-ok true k u h = refl
+judged-ok false k u h = absurd (cc)
 
-module _ (s0 s1 s2 s3 : List ℕ) where
-  pub slots-0 : sound_in s0 0 ≡ false → Checked.Refused 5 0 ≡ slots_answer s0 s1 s2 s3
-  unfolding slots_answer
-  slots-0 e = rw e
+judged-err : {A : Type 0} (b : Bool) (k : ℕ) (x : Result A Refusal) (r : Refusal) → judged b k ≡ Err r → Err r ≡ cond b x (refused BadHolidays k)
+judged-err true k x r h = absurd (cc)
+judged-err false k x r h = cc
 
-  pub slots-1 : sound_in s0 0 ≡ true → sound_in s1 1 ≡ false → Checked.Refused 5 1 ≡ slots_answer s0 s1 s2 s3
-  unfolding slots_answer
-  slots-1 e f = rw (e, f)
+pub check-refused : {A : Type 0} (s : List ℕ) (x : Result A Refusal) (r : Refusal) → check_answer s ≡ Err r → Err r ≡ cond (sound s) x (refused BadHolidays 0)
+unfolding check_answer
+check-refused s x r h = judged-err (sound s) 0 x r h
 
-  pub slots-2 : sound_in s0 0 ≡ true → sound_in s1 1 ≡ true → sound_in s2 2 ≡ false → Checked.Refused 5 2 ≡ slots_answer s0 s1 s2 s3
-  unfolding slots_answer
-  slots-2 e f g = rw (e, f, g)
+pub slot-passed : (s : List ℕ) (k : ℕ) (u : Unit {0}) → slot_answer s k ≡ Ok u → sound_in s k ≡ true
+unfolding slot_answer
+slot-passed s k u h = judged-ok (sound_in s k) k u h
 
-  pub slots-3 : sound_in s0 0 ≡ true → sound_in s1 1 ≡ true → sound_in s2 2 ≡ true → sound_in s3 3 ≡ false
-      → Checked.Refused 5 3 ≡ slots_answer s0 s1 s2 s3
-  unfolding slots_answer
-  slots-3 e f g h = rw (e, f, g, h)
-
-  pub slots-sound : sound_in s0 0 ≡ true → sound_in s1 1 ≡ true → sound_in s2 2 ≡ true → sound_in s3 3 ≡ true
-      → Checked.Sound ≡ slots_answer s0 s1 s2 s3
-  unfolding slots_answer
-  slots-sound e f g h = rw (e, f, g, h)
+pub slot-refused : (s : List ℕ) (k : ℕ) (x : Result (Unit {0}) Refusal) (r : Refusal) → slot_answer s k ≡ Err r → Err r ≡ cond (sound_in s k) x (refused BadHolidays k)
+unfolding slot_answer
+slot-refused s k x r h = judged-err (sound_in s k) k x r h

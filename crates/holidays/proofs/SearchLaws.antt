@@ -3,15 +3,13 @@
 use mathlib.Core.Path.{◌≡◌, refl, ap, sym, ◌∙◌, subst}
 use mathlib.Core.Bool.{true, false}
 use mathlib.Core.List.{List}
+use Rattle.std.specs.Prelude.{Some, None}
 use Prim.Native.Nat.{ℕ, zero, suc, ◌+◌, ◌-◌, ◌≤◌, ◌<◌}
 use native.Mathlib.Nat.{add-zero, zero-add}
 use native.Mathlib.Omega.{arith}
-use Rattle.calendar.specs.Calendar.{before_year, day_number, date_of}
-use Rattle.calendar.specs.declared.Date.{Date}
-use Rattle.dates.specs.Exists.{is_date}
-use Rattle.holiday_image.specs.Image.{names, sound}
-use Rattle.holidays.specs.declared.First.{First}
-use Rattle.holidays.specs.Answers.{first_among, first_from, first_answer}
+use Rattle.calendar.specs.Calendar.{before_year, date_of}
+use Rattle.holiday_image.specs.Image.{names}
+use Rattle.holidays.specs.Answers.{first_among, first_from}
 
 -- no day after n, up to t, is a holiday
 pub record Clear (s : List ℕ) (n t : ℕ) : Type 0 where
@@ -26,11 +24,11 @@ among-skip s n (suc t) k c =
     let f : n + suc t ≡ suc n + t = omega arith in
     rw (e, h, f) (among-skip s (suc n) t k (λ j l u. c j (omega arith) (omega arith)))
 
-among-here : (s : List ℕ) (n k : ℕ) → names s (date_of (suc n)) ≡ true → first_among s n (suc k) ≡ First.On (date_of (suc n))
+among-here : (s : List ℕ) (n k : ℕ) → names s (date_of (suc n)) ≡ true → first_among s n (suc k) ≡ Some (date_of (suc n))
 unfolding first_among
 among-here s n k e = rw e
 
-among_none : (s : List ℕ) (n k : ℕ) → ((j : ℕ) → n < j → names s (date_of j) ≡ false) → first_among s n k ≡ First.Nothing
+among_none : (s : List ℕ) (n k : ℕ) → ((j : ℕ) → n < j → names s (date_of j) ≡ false) → first_among s n k ≡ None
 unfolding first_among
 among_none s n zero c = refl
 among_none s n (suc k) c =
@@ -46,35 +44,20 @@ from-skip s n t h l c =
     ∙ among-skip s n (t - n) (before_year 10000 - t) (λ j i u. c.clear j i (omega arith))
     ∙ ap (λ (k : ℕ). first_among s k (before_year 10000 - t)) f
 
-from-here : (s : List ℕ) (n : ℕ) → n < before_year 10000 → names s (date_of (suc n)) ≡ true → first_from s n ≡ First.On (date_of (suc n))
+from-here : (s : List ℕ) (n : ℕ) → n < before_year 10000 → names s (date_of (suc n)) ≡ true → first_from s n ≡ Some (date_of (suc n))
 unfolding first_from
 from-here s n h e =
     let f : before_year 10000 - n ≡ suc (before_year 10000 - suc n) = omega arith in
     ap (first_among s n) f ∙ among-here s n (before_year 10000 - suc n) e
 
 -- day j, with no holiday between n and it, is the first
-pub from_on : (s : List ℕ) (n j : ℕ) → n < j → j ≤ before_year 10000 → Clear s n (j - 1) → names s (date_of j) ≡ true → first_from s n ≡ First.On (date_of j)
+pub from_on : (s : List ℕ) (n j : ℕ) → n < j → j ≤ before_year 10000 → Clear s n (j - 1) → names s (date_of j) ≡ true → first_from s n ≡ Some (date_of j)
 from_on s n j h l c e =
     let f : suc (j - 1) ≡ j = omega arith in
     from-skip s n (j - 1) (omega arith) (omega arith) c
     ∙ from-here s (j - 1) (omega arith) (subst (λ (k : ℕ). names s (date_of k) ≡ true) (sym f) e)
-    ∙ ap (λ (k : ℕ). First.On (date_of k)) f
+    ∙ ap (λ (k : ℕ). Some (date_of k)) f
 
-pub from-none : (s : List ℕ) (n : ℕ) → ((j : ℕ) → n < j → names s (date_of j) ≡ false) → first_from s n ≡ First.Nothing
+pub from-none : (s : List ℕ) (n : ℕ) → ((j : ℕ) → n < j → names s (date_of j) ≡ false) → first_from s n ≡ None
 unfolding first_from
 from-none s n c = among_none s n (before_year 10000 - n) c
-
--- the three ways that the answer ends
-
-module _ (s : List ℕ) (d : Date) where
-  pub first-bad : sound s ≡ false → First.Refused 5 0 ≡ first_answer s d
-  unfolding first_answer
-  first-bad e = rw e
-
-  pub first-nowhere : sound s ≡ true → is_date d ≡ false → First.Refused 7 0 ≡ first_answer s d
-  unfolding first_answer
-  first-nowhere e f = rw (e, f)
-
-  pub first_good : sound s ≡ true → is_date d ≡ true → first_from s (day_number d) ≡ first_answer s d
-  unfolding first_answer
-  first_good e f = rw (e, f)

@@ -1,23 +1,22 @@
 -- The walk over months: what is left to find from a month with some days passed is what was to be found from the start.
 -- Assumes nothing.
-use mathlib.Core.Path.{◌≡◌, refl, ap, sym, ◌∙◌, subst}
+use mathlib.Core.Path.{◌≡◌, ap, sym, ◌∙◌, subst}
 use mathlib.Core.Bool.{true, false}
 use mathlib.Core.List.{List}
+use Rattle.std.specs.Prelude.{Some, None}
 use Prim.Native.Nat.{ℕ, ◌+◌, ◌-◌, ◌≤◌, ◌<◌}
 use native.Mathlib.Omega.{arith}
 use lib.Count.{count_leading_zeros}
 use borrow.Author.Tests.{le-leb, lt-ltb}
 use Rattle.bits.specs.Bits.{bits, bit_at}
-use Rattle.calendar.specs.Calendar.{leap, month_length, day_number, Valid, date_of}
+use Rattle.calendar.specs.Calendar.{leap, month_length, before_year, day_number, Valid, date_of}
 use Rattle.calendar.specs.declared.Date.{Date}
 use Rattle.calendar.proofs.Days.{length_high}
 use Rattle.calendar.proofs.Dates.{date_of-number}
 use Rattle.holiday_image.specs.Image.{first_year, year_count, month_bit, has_year, names, sound}
-use Rattle.holiday_image.specs.Parts.{YearsOf, InYears}
-use Rattle.holiday_image.specs.declared.Years.{Years}
+use Rattle.holiday_image.specs.Parts.{InYears}
 use Rattle.holiday_image.proofs.Laws.{sum-high}
 use Rattle.holiday_image.proofs.Named.{zero_bit, named-real}
-use Rattle.holidays.specs.declared.First.{First}
 use Rattle.holidays.specs.Answers.{first_from}
 use Rattle.holidays.specs.Parts.{Passed}
 use Rattle.holidays.proofs.BitLaws.{FirstDay, first-day}
@@ -32,17 +31,9 @@ pub record Here (s : List ℕ) (n y m p : ℕ) : Type 0 where
   pub passed : p ≤ month_length (leap y) m
   pub same : first_from s n ≡ first_from s (number y m p)
 
-pub begin : (s : List ℕ) (d : Date) (f : ℕ) → f ≡ first_year s → f ≤ d.year → Passed d
-    → Here s (number d.year d.month d.day) d.year d.month d.day
-begin s d f e h t = record { from = omega arith; month_low = t.month_low; month_high = t.month_high; passed = t.day_high; same = refl }
-
-pub again : (s : List ℕ) (n y m p : ℕ) → Here s n y m p → Here s (number y m p) y m p
-again s n y m p h = record { from = h.from; month_low = h.month_low; month_high = h.month_high; passed = h.passed; same = refl }
-
--- a walk in two parts
-pub joined : (s : List ℕ) (n y m p z k q : ℕ) → Here s n y m p → Here s (number y m p) z k q → Here s n z k q
-joined s n y m p z k q h i =
-    record { from = i.from; month_low = i.month_low; month_high = i.month_high; passed = i.passed; same = h.same ∙ i.same }
+pub begin : (s : List ℕ) (d : Date) (f : ℕ) → f ≡ first_year s → f ≤ d.year → Passed d → Here s (day_number d) d.year d.month d.day
+begin s d f e h t =
+    record { from = omega arith; month_low = t.month_low; month_high = t.month_high; passed = t.day_high; same = ap (first_from s) (number_of d) }
 
 has : (s : List ℕ) (y : ℕ) → first_year s ≤ y → y < first_year s + year_count s → has_year s y ≡ true
 unfolding has_year
@@ -56,7 +47,7 @@ module _ (s : List ℕ) (n y m p : ℕ) (h : Here s n y m p) where
   in-years u = record { from = h.from; upto = u; month_low = h.month_low; month_high = h.month_high }
 
   -- no bit is left: the month is done
-  month-done : (v : ℕ) → sound s ≡ true → y < first_year s + year_count s → v ≡ bits s (month_bit (first_year s) y m + p) (31 - p) → v ≡ 0
+  pub month-done : (v : ℕ) → sound s ≡ true → y < first_year s + year_count s → v ≡ bits s (month_bit (first_year s) y m + p) (31 - p) → v ≡ 0
       → first_from s n ≡ first_from s (number y (m + 1) 0)
   month-done v e u f z =
       h.same
@@ -74,29 +65,12 @@ module _ (s : List ℕ) (n y m p : ℕ) (h : Here s n y m p) where
           (zero_bit s (month_bit (first_year s) y m + p) (31 - p) (d - 1 - p) (sym f ∙ z)
           (omega (arith, length_high (leap y) m h.month_low h.month_high))))
 
-  pub next-month : (v : ℕ) → sound s ≡ true → y < first_year s + year_count s → v ≡ bits s (month_bit (first_year s) y m + p) (31 - p) → v ≡ 0
-      → m < 12 → Here s n y (m + 1) 0
-  next-month v e u f z l =
-      record { from = h.from; month_low = omega arith; month_high = omega arith; passed = omega arith; same = month-done v e u f z }
-
-  pub next-year : (v : ℕ) → sound s ≡ true → y < first_year s + year_count s → v ≡ bits s (month_bit (first_year s) y m + p) (31 - p) → v ≡ 0
-      → 12 ≤ m → Here s n (y + 1) 1 0
-  next-year v e u f z l =
-      let q : m + 1 ≡ 13 = omega (arith, h.month_high) in
-      record {
-        from = omega (arith, h.from);
-        month_low = omega arith;
-        month_high = omega arith;
-        passed = omega arith;
-        same = month-done v e u f z ∙ ap (λ (k : ℕ). first_from s (number y k 0)) q ∙ ap (first_from s) (year-end y);
-      }
-
   -- a bit is left: the first of them is the answer
   pub found : (v : ℕ) → sound s ≡ true → y < first_year s + year_count s → v ≡ bits s (month_bit (first_year s) y m + p) (31 - p) → (v ≡ 0 → ⊥)
-      → First.On (record { year = y; month = m; day = count_leading_zeros 32 v }) ≡ first_from s n
+      → Some (record { year = y; month = m; day = count_leading_zeros 32 v }) ≡ first_from s n
   found v e u f z = sym (made (count_leading_zeros 32 v) (first-day s (month_bit (first_year s) y m) p v passed-few f (omega arith)))
     where
-      made : (d : ℕ) → FirstDay s (month_bit (first_year s) y m) p d → first_from s n ≡ First.On (record { year = y; month = m; day = d })
+      made : (d : ℕ) → FirstDay s (month_bit (first_year s) y m) p d → first_from s n ≡ Some (record { year = y; month = m; day = d })
       made d t =
           let named : names s (record { year = y; month = m; day = d }) ≡ true = set-in s y m d (has s y h.from u) t.set in
           let real : d ≤ month_length (leap y) m = named-real s (record { year = y; month = m; day = d }) e named h.month_low h.month_high (omega (arith, t.later)) t.inside in
@@ -110,14 +84,29 @@ module _ (s : List ℕ) (n y m p : ℕ) (h : Here s n y m p) where
           (subst (Clear s (number y m p)) (sym last)
           (days-clear s y m p (d - 1) h.month_low h.month_high (omega arith) (λ k l o. unset s y m k (t.clear k l (omega (arith, t.later))))))
           (subst (λ (x : Date). names s x ≡ true) is named)
-          ∙ ap First.On (sym is)
+          ∙ ap Some (sym is)
 
   -- behind the last year nothing is left
-  pub ended : first_year s + year_count s ≤ y → First.Nothing ≡ first_from s n
+  pub ended : first_year s + year_count s ≤ y → None ≡ first_from s n
   ended u = sym (h.same ∙ from-none s (number y m p) none)
     where
       none : (j : ℕ) → number y m p < j → names s (date_of j) ≡ false
       none j l = let k = not-before j y (omega (arith, number_is y m p)) in too-late s (date_of j) (omega arith)
+
+-- behind December a year is done
+pub year-done : (s : List ℕ) (n y m p : ℕ) → m ≡ 13 → p ≡ 0 → first_from s n ≡ first_from s (number y m p) → first_from s n ≡ first_from s (before_year (y + 1))
+year-done s n y m p e f h =
+    h ∙ ap (λ (k : ℕ). first_from s (number y k p)) e ∙ ap (λ (k : ℕ). first_from s (number y 13 k)) f ∙ ap (first_from s) (year-end y ∙ start_is (y + 1))
+
+pub next-year : (s : List ℕ) (n y m p : ℕ) → Here s n y m p → first_from s (number y m p) ≡ first_from s (before_year (y + 1)) → Here s n (y + 1) 1 0
+next-year s n y m p h e =
+    record {
+      from = omega (arith, h.from);
+      month_low = omega arith;
+      month_high = omega arith;
+      passed = omega arith;
+      same = h.same ∙ e ∙ ap (first_from s) (sym (start_is (y + 1)));
+    }
 
 -- a date before the first year finds what the first year's beginning finds
 pub start-early : (s : List ℕ) (d : Date) (f : ℕ) → sound s ≡ true → f ≡ first_year s → d.year < f → 1 ≤ d.day → Passed d
@@ -138,13 +127,3 @@ start-passed f = record { month_low = omega arith; month_high = omega arith; day
 
 pub valid-passed : (d : Date) → Valid d → Passed d
 valid-passed d v = record { month_low = v.month_low; month_high = v.month_high; day_high = v.day_high }
-
--- the years' end by the head's numbers, and the start by its parts
-pub upto-said : (s : List ℕ) (ys : Years) (y : ℕ) → YearsOf s ys → y < ys.first + ys.count → y < first_year s + year_count s
-upto-said s ys y e h = omega arith
-
-pub late-said : (s : List ℕ) (ys : Years) (y : ℕ) → YearsOf s ys → ys.first + ys.count ≤ y → first_year s + year_count s ≤ y
-late-said s ys y e h = omega arith
-
-pub told : (s : List ℕ) (d : Date) (r : First) → r ≡ first_from s (number d.year d.month d.day) → r ≡ first_from s (day_number d)
-told s d r e = e ∙ ap (first_from s) (sym (number_of d))

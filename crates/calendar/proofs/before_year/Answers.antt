@@ -3,4 +3,4 @@ use Rattle.calendar.proofs.Direct.{by-centuries}
 use Rattle.calendar.proofs.before_year.Goals as goal
 
 pub returns : goal.returns
-returns c = by-centuries c.args.y
+returns c = by-centuries c.args.year

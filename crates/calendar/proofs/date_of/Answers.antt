@@ -4,7 +4,6 @@ use native.Mathlib.Omega.{arith}
 use Rattle.calendar.specs.Calendar.{before_year}
 use Rattle.calendar.specs.Parts.{Settled}
 use Rattle.calendar.proofs.Dates.{assembled}
-use borrow.Author.Rules.{rules}
 use Rattle.calendar.proofs.date_of.Goals as goal
 
 -- counted from the year 0, a day is its number
@@ -12,10 +11,7 @@ from_start : {n y d : ℕ} → Settled (before_year 0 + n) y d → Settled n y d
 unfolding before_year
 from_start s = record { counted = omega arith; low = s.low; high = s.high }
 
-pub month_of-m-requires : goal.month_of-m-requires
-month_of-m-requires c = (search rules, rw c.is_leap-leap.ensures c.settle-at.ensures.high)
-
 pub returns : goal.returns
 returns c =
     rw (c.before_month.ensures, c.is_leap-leap.ensures)
-    (assembled (from_start c.settle-at.ensures) (rw c.is_leap-leap.ensures at c.month_of-m.ensures))
+    (assembled (from_start c.settle-at.ensures) (rw c.is_leap-leap.ensures at c.month_of-month.ensures))

@@ -1,31 +1,18 @@
 -- `date_answers::weekday` meets its contract: a date that exists has a number.
-use mathlib.Core.Path.{◌≡◌, sym, ◌∙◌}
-use mathlib.Core.Bool.{true}
-use native.Mathlib.Omega.{arith}
-use Rattle.dates.specs.Exists.{is_date}
+use Rattle.std.proofs.Common.{◌∙◌, sym}
+use Rattle.std.proofs.lemmas.Result.{err_from_is_err_and}
 use Rattle.date_answers.specs.Answers.{weekday_answer}
-use Rattle.dates.proofs.There.{DateThere, date-there, small-day, small-number}
+use Rattle.dates.proofs.There.{answered-ok, answered-err}
 use Rattle.date_answers.proofs.weekday.Goals as goal
-use Rattle.date_answers.proofs.weekday.Goals.{Then-exists}
 
--- in this arm the test passed
-is : (c : Then-exists) → is_date c.args.date ≡ true
-is c = sym c.exists.ensures ∙ c.if-exists.true
-
--- so that the date exists
-there : (c : Then-exists) → DateThere c.args.date
-there c = date-there c.args.date (is c)
-
-pub day_number-requires : goal.day_number-requires
-day_number-requires c = omega (arith, (there (goal.at.day_number-requires c).Then-exists).high, (there (goal.at.day_number-requires c).Then-exists).valid.month_high, small-day c.args.date (there (goal.at.day_number-requires c).Then-exists))
-
-pub weekday_of-requires : goal.weekday_of-requires
-weekday_of-requires c = omega (arith, c.day_number.ensures, small-number c.args.date (there (goal.at.weekday_of-requires c).Then-exists))
-
-pub returns-then-exists : goal.returns-then-exists
+pub returns-in_err-number : goal.returns-in_err-number
 unfolding weekday_answer
-returns-then-exists c = rw (c.weekday_of.ensures, c.day_number.ensures, is (goal.at.returns-then-exists c).Then-exists)
+returns-in_err-number c =
+    let p = err_from_is_err_and c.from_residual.result c.from_residual.ensures.1 in
+    rw (p.1, p.2) (answered-err _ _ _ _ (sym c.number_of.ensures.answer ∙ c.in_err-number.was))
 
-pub returns-else-exists : goal.returns-else-exists
+pub returns : goal.returns
 unfolding weekday_answer
-returns-else-exists c = rw (sym c.exists.ensures ∙ c.if-exists.false)
+returns c =
+    let t = answered-ok _ _ _ (sym c.number_of.ensures.answer ∙ c.in_ok-number.was) in
+    rw (c.weekday_of.ensures, ← t.0, t.1)

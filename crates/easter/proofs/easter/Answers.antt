@@ -7,4 +7,4 @@ overflow_sub-l-2 c = room _ _ _ _
 
 pub returns : goal.returns
 unfolding h-of l-of m-of
-returns c = result c.args.y c.requires
+returns c = result c.args.year c.requires

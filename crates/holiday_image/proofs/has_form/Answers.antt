@@ -1,9 +1,12 @@
 -- The two tests in turn, on the head's numbers.
-use Rattle.holiday_image.proofs.Laws.{form-yes, form-no}
+use Rattle.std.proofs.Common.{◌≡◌, ℕ, ◌+◌, ◌%◌, ◌/◌, arith}
+use Rattle.std.specs.Prelude.{min}
+use Rattle.holiday_image.proofs.Laws.{form-yes}
 use Rattle.holiday_image.proofs.has_form.Goals as goal
 
-pub returns-then-years_fit : goal.returns-then-years_fit
-returns-then-years_fit c = form-yes _ _ _ c.years_of-years.ensures c.years_fit.ensures c.if-years_fit.true
+-- bytes that hold n bits
+bytes-of : (n : ℕ) → n / 8 + min 1 (n % 8) ≡ (n + 7) / 8
+bytes-of n = omega arith
 
-pub returns-else-years_fit : goal.returns-else-years_fit
-returns-else-years_fit c = form-no _ _ _ c.years_of-years.ensures c.years_fit.ensures c.if-years_fit.false
+pub returns-then-fit : goal.returns-then-fit
+returns-then-fit c = rw (c.div_ceil.ensures, bytes-of, c.end_bit.ensures) (form-yes _ _ _ c.of-years.ensures c.fit.ensures c.if-fit.true)

@@ -1,24 +1,25 @@
 -- An empty image fits every slot; else it has to be sound, and its flags are the slot's.
-use mathlib.Core.Path.{ap, sym, ◌∙◌}
-use Prim.Native.Nat.{ℕ, ◌<◌}
-use lib.Dec.{eqb}
-use lib.ListN.{length}
-use native.Mathlib.Omega.{arith}
-use Rattle.holiday_image.proofs.Laws.{enough, slot-empty, slot-no, slot-yes}
+use Rattle.std.proofs.Common.{◌<◌, length, sym, ◌∙◌}
+use borrow.Author.Tests.{eqb-true}
+use Rattle.holiday_image.proofs.Laws.{some-byte, enough, slot-empty, slot-no, slot-yes}
 use Rattle.holiday_image.proofs.slot_is_sound.Goals as goal
+use Rattle.holiday_image.proofs.slot_is_sound.Goals.{Else-is_empty}
 
-pub returns-then-image-eq0 : goal.returns-then-image-eq0
-returns-then-image-eq0 c = slot-empty _ c.if-image-eq0.true _
+-- in this arm there is a byte
+some : (c : Else-is_empty) → 0 < length c.args.image.now
+some c = some-byte _ (sym c.is_empty.ensures ∙ c.if-is_empty.false)
 
 pub slot_of-requires : goal.slot_of-requires
-slot_of-requires c = enough _ (sym c.is_sound.ensures ∙ c.if-is_sound.true) (omega (arith, c.if-image-eq0.false))
+slot_of-requires c = enough _ (sym c.is_sound.ensures ∙ c.if-is_sound.true) (some (goal.at.slot_of-requires c).Else-is_empty)
+
+pub returns-then-is_empty : goal.returns-then-is_empty
+returns-then-is_empty c = c.if-is_empty.true ∙ slot-empty _ (eqb-true _ _ (sym c.is_empty.ensures ∙ c.if-is_empty.true)) _
 
 pub returns-then-is_sound : goal.returns-then-is_sound
 returns-then-is_sound c =
-    let h : 0 < length c.args.image.now = omega (arith, c.if-image-eq0.false) in
-    ap (λ (k : ℕ). eqb k c.args.slot) c.slot_of.ensures ∙ slot-yes _ h (sym c.is_sound.ensures ∙ c.if-is_sound.true) _
+    rw c.slot_of.ensures (slot-yes _ (some (goal.at.returns-then-is_sound c).Else-is_empty) (sym c.is_sound.ensures ∙ c.if-is_sound.true) _)
 
 pub returns-else-is_sound : goal.returns-else-is_sound
 returns-else-is_sound c =
-    let h : 0 < length c.args.image.now = omega (arith, c.if-image-eq0.false) in
-    slot-no _ h (sym c.is_sound.ensures ∙ c.if-is_sound.false) _
+    c.if-is_sound.false
+    ∙ slot-no _ (some (goal.at.returns-else-is_sound c).Else-is_empty) (sym c.is_sound.ensures ∙ c.if-is_sound.false) _

@@ -1,5 +1,5 @@
 -- The two flags side by side make the slot's number.
-use mathlib.Core.Path.{◌∙◌}
+use Rattle.std.proofs.Common.{◌∙◌}
 use Rattle.holiday_image.proofs.Laws.{slot_is}
 use Rattle.holiday_image.proofs.slot_of.Goals as goal
 

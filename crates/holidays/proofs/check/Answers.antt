@@ -1,10 +1,14 @@
 -- The answer is the judgement of the image.
-use mathlib.Core.Path.{sym, ◌∙◌}
-use Rattle.holidays.proofs.CheckLaws.{check-yes, check-no}
+use Rattle.std.proofs.Common.{sym}
+use Rattle.std.proofs.lemmas.Result.{err_from_is_err_and}
+use Rattle.holidays.specs.Answers.{check_answer}
 use Rattle.holidays.proofs.check.Goals as goal
 
-pub returns-then-is_sound : goal.returns-then-is_sound
-returns-then-is_sound c = check-yes _ (sym c.is_sound.ensures ∙ c.if-is_sound.true)
+pub returns-in_err-sound_image : goal.returns-in_err-sound_image
+returns-in_err-sound_image c =
+    let p = err_from_is_err_and c.from_residual.result c.from_residual.ensures.1 in
+    rw (p.1, p.2) (sym c.in_err-sound_image.ensures.err)
 
-pub returns-else-is_sound : goal.returns-else-is_sound
-returns-else-is_sound c = check-no _ (sym c.is_sound.ensures ∙ c.if-is_sound.false)
+pub returns : goal.returns
+unfolding check_answer
+returns c = rw (rw c.in_ok-sound_image.ensures.ok at c.in_ok-sound_image.field-0.sound)

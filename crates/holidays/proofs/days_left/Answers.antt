@@ -7,4 +7,4 @@ pub overflow_sub-result-2 : goal.overflow_sub-result-2
 overflow_sub-result-2 c = mask-pos _ (omega arith)
 
 pub returns : goal.returns
-returns c = masked _ _ _ _ c.requires.3 c.month_days-days.ensures
+returns c = masked _ _ _ _ c.requires.1 c.month_days-days.ensures
