@@ -1,6 +1,6 @@
 -- The forms of a date on a year: what the code computes, and the range of the days found.
 -- Assumes nothing.
-use mathlib.Core.Path.{◌≡◌, ap, ◌∙◌, subst}
+use mathlib.Core.Path.{◌≡◌, refl, ap, sym, ◌∙◌, subst}
 use mathlib.Core.Bool.{Bool, true, false}
 use Prim.Native.Nat.{ℕ, suc, ◌+◌, ◌-◌, ◌≤◌, ◌<◌}
 use native.Mathlib.Decide.{dec_lt, ℕ_discrete}
@@ -20,17 +20,20 @@ use Rattle.easter.specs.Easter.{easter_number, sunday_after, full_moon}
 use Rattle.rules.specs.declared.Date.{Date}
 use Rattle.rules.specs.declared.Date.TheVariants.{Fixed, Weekday, Easter}
 use Rattle.rules.specs.declared.DateOffset.{DateOffset}
-use Rattle.date_bounds.specs.Bounds.{fixed_on, forward, backward, kth, nth_in, nth_on, on_year, own_year, year_for, date_on, bound_on, YearOk, MonthOk, DateOk, Before}
+use Rattle.std.proofs.Common.{Option, Some, None}
+use Rattle.date_bounds.specs.declared.Side.{Side}
+use Rattle.date_bounds.specs.declared.Side.TheVariants.{Start, End}
+use Rattle.date_bounds.specs.Bounds.{past, given, fixed_on, forward, backward, kth, nth_in, nth_on, on_year, own_year, year_for, date_on, bound_on, YearOk, MonthOk, DateOk, Before}
 use Rattle.calendar.proofs.Offsets.{again}
 use Rattle.date_bounds.proofs.Nth.{kth-within, kth-within-back}
 
 -- a fixed date, in its month and past it
-module _ (past y m d : ℕ) where
-  pub in-month : d ≤ month_length (leap y) m → before_year y + before_month (leap y) m + d ≡ fixed_on past y m d
+module _ (side : Side) (y m d : ℕ) where
+  pub in-month : d ≤ month_length (leap y) m → before_year y + before_month (leap y) m + d ≡ fixed_on side y m d
   unfolding fixed_on day_number ordinal
   in-month h = simp (le-leb d (month_length (leap y) m) h) (omega arith)
 
-  pub past-month : month_length (leap y) m < d → before_year y + before_month (leap y) m + month_length (leap y) m + past ≡ fixed_on past y m d
+  pub past-month : month_length (leap y) m < d → before_year y + before_month (leap y) m + month_length (leap y) m + past side ≡ fixed_on side y m d
   unfolding fixed_on day_number ordinal
   past-month h = simp (lt-leb d (month_length (leap y) m) h) (omega arith)
 
@@ -64,16 +67,16 @@ unfolding nth_on
 nth-made y m w z h k = rw (again z (omega arith), k.at, k.days)
 
 -- the three forms
-module _ (past : ℕ) (date : Date) (y : ℕ) where
-  pub on-fixed : {own m d : ℕ} → date ≡ Fixed own m d → fixed_on past y m d ≡ on_year past date y
+module _ (side : Side) (date : Date) (y : ℕ) where
+  pub on-fixed : {own m d : ℕ} → date ≡ Fixed own m d → Some (fixed_on side y m d) ≡ on_year side date y
   unfolding on_year
   on-fixed e = rw e
 
-  pub on-weekday : {own m w : ℕ} {z : ℤ} → date ≡ Weekday own m w z → nat_abs z ≤ 8 → nth_on y m w (to_z w16 (of_z w16 z)) ≡ on_year past date y
+  pub on-weekday : {own m w : ℕ} {z : ℤ} → date ≡ Weekday own m w z → nat_abs z ≤ 8 → nth_on y m w (to_z w16 (of_z w16 z)) ≡ on_year side date y
   unfolding on_year
   on-weekday {z = z} e h = rw (e, again z (omega arith))
 
-  pub on-easter : {own : ℕ} → date ≡ Easter own → easter_number y ≡ on_year past date y
+  pub on-easter : {own : ℕ} → date ≡ Easter own → Some (easter_number y) ≡ on_year side date y
   unfolding on_year
   on-easter e = rw e
 
@@ -89,10 +92,10 @@ module _ (b c w : ℕ) where
   backwards (pos k) at h e q = absurd (omega arith)
   backwards (negsuc k) at h e q = let f : 1000 - at ≡ suc k = omega arith in ap (λ j. kth w j (backward b c)) f
 
-  nth-within : (z : ℤ) → w < 7 → (nth_in b c w z ≡ 0 → ⊥) → (b < nth_in b c w z) × (nth_in b c w z ≤ b + c)
+  nth-within : (z : ℤ) (n : ℕ) → w < 7 → nth_in b c w z ≡ Some n → (b < n) × (n ≤ b + c)
   unfolding nth_in
-  nth-within (pos k) h f = kth-within b c w k h f
-  nth-within (negsuc k) h f = kth-within-back b c w (suc k) h f
+  nth-within (pos k) n h f = kth-within b c w k n h f
+  nth-within (negsuc k) n h f = kth-within-back b c w (suc k) n h f
 
 -- Easter Sunday falls into its year
 full-high : (y : ℕ) → full_moon y ≤ 50
@@ -145,79 +148,87 @@ easter-month y d e =
       omega (arith, v.day_high, length_high (leap (date_of (easter_number y)).year) (date_of (easter_number y)).month v.month_low v.month_high),
     )
 
-fixed-within : (past y m d : ℕ) → MonthOk m → 1 ≤ d → d ≤ 31 → past ≤ 1 → (before_year y < fixed_on past y m d) × (fixed_on past y m d ≤ before_year y + 400)
-fixed-within past y m d k i j p = by_cases (dec_lt (month_length l m) d)
+pub past-high : (side : Side) → past side ≤ 1
+past-high Start = omega arith
+past-high End = omega arith
+
+fixed-within : (side : Side) (y m d : ℕ) → MonthOk m → 1 ≤ d → d ≤ 31 → (before_year y < fixed_on side y m d) × (fixed_on side y m d ≤ before_year y + 400)
+fixed-within side y m d k i j = by_cases (dec_lt (month_length l m) d)
   where
     l : Bool
     l = leap y
 
-    by_cases : Dec (month_length l m < d) → (before_year y < fixed_on past y m d) × (fixed_on past y m d ≤ before_year y + 400)
+    by_cases : Dec (month_length l m < d) → (before_year y < fixed_on side y m d) × (fixed_on side y m d ≤ before_year y + 400)
     by_cases (yes q) =
         omega (
           arith,
-          past-month past y m d q,
+          past-month side y m d q,
+          past-high side,
           months-high l m (omega (arith, k.high)),
           length-low l m k.low k.high,
           length_high l m k.low k.high,
         )
-    by_cases (no q) = omega (arith, in-month past y m d (omega arith), months-high l m (omega (arith, k.high)))
+    by_cases (no q) = omega (arith, in-month side y m d (omega arith), months-high l m (omega (arith, k.high)))
 
 -- a date that is found lies in its year or on the day after
-pub on-within : (past : ℕ) (date : Date) (y : ℕ) → DateOk date → past ≤ 1 → (on_year past date y ≡ 0 → ⊥) →
-    (before_year y < on_year past date y) × (on_year past date y ≤ before_year y + 400)
+pub on-within : (side : Side) (date : Date) (y n : ℕ) → DateOk date → on_year side date y ≡ Some n → (before_year y < n) × (n ≤ before_year y + 400)
 unfolding on_year nth_on
-on-within past (Fixed own m d) y ok p f = fixed-within past y m d ok.ok.1 ok.ok.2 ok.ok.3 p
-on-within past (Weekday own m w nth) y ok p f =
+on-within side (Fixed own m d) y n ok f =
+    let e : fixed_on side y m d ≡ n = cc in
+    omega (arith, fixed-within side y m d ok.ok.1 ok.ok.2 ok.ok.3)
+on-within side (Weekday own m w nth) y n ok f =
     let l = leap y in
     omega (
       arith,
-      nth-within (before_year y + before_month l m) (month_length l m) w nth ok.ok.2 f,
+      nth-within (before_year y + before_month l m) (month_length l m) w nth n ok.ok.2 f,
       months-high l m (omega (arith, ok.ok.1.high)),
       length_high l m ok.ok.1.low ok.ok.1.high,
     )
-on-within past (Easter own) y ok p f = omega (arith, easter-within y)
+on-within side (Easter own) y n ok f =
+    let e : easter_number y ≡ n = cc in
+    omega (arith, easter-within y)
 
 -- the year that a date is laid on
-pub own-ok : (date : Date) → DateOk date → YearOk (own_year date)
-unfolding own_year
-own-ok (Fixed own m d) ok = ok.ok.0
-own-ok (Weekday own m w nth) ok = ok.ok.0
-own-ok (Easter own) ok = ok.ok
-
-pub year-any : (own y : ℕ) → own ≡ 0 → y ≡ year_for own y
-unfolding year_for
-year-any own y h = simp (eq-eqb own 0 h)
-
-pub year-own : (own y : ℕ) → (own ≡ 0 → ⊥) → own ≡ year_for own y
-unfolding year_for
-year-own own y h = simp (ne_eqb own 0 h)
-
-pub year-within : (own y : ℕ) → YearOk own → 1800 ≤ y → y ≤ 10001 → (1800 ≤ year_for own y) × (year_for own y ≤ 10001)
-year-within own y ok i j = by_cases (ℕ_discrete own 0)
+given-ok : (own n : ℕ) → YearOk own → given own ≡ Some n → (1900 ≤ n) × (n ≤ 9999)
+given-ok own n ok e = by_cases (ℕ_discrete own 0)
   where
-    by_cases : Dec (own ≡ 0) → (1800 ≤ year_for own y) × (year_for own y ≤ 10001)
-    by_cases (yes z) = omega (arith, year-any own y z)
-    by_cases (no z) = omega (arith, year-own own y z, ok.low z, ok.high)
+    by_cases : Dec (own ≡ 0) → (1900 ≤ n) × (n ≤ 9999)
+    by_cases (yes z) = let f : None ≡ Some n = sym (simp (eq-eqb own 0 z)) ∙ e in absurd cc
+    by_cases (no z) =
+        let f : Some own ≡ Some n = sym (simp (ne_eqb own 0 z)) ∙ e in
+        let g : own ≡ n = cc in
+        omega (arith, ok.low z, ok.high)
+
+pub own-ok : (date : Date) (n : ℕ) → DateOk date → own_year date ≡ Some n → (1900 ≤ n) × (n ≤ 9999)
+unfolding own_year
+own-ok (Fixed own m d) n ok e = given-ok own n ok.ok.0 e
+own-ok (Weekday own m w nth) n ok e = given-ok own n ok.ok.0 e
+own-ok (Easter own) n ok e = given-ok own n ok.ok e
+
+pub year-within : (own : Option ℕ) (y : ℕ) → ((n : ℕ) → own ≡ Some n → (1900 ≤ n) × (n ≤ 9999)) → 1800 ≤ y → y ≤ 10001 →
+    (1800 ≤ year_for own y) × (year_for own y ≤ 10001)
+unfolding year_for
+year-within None y ok i j = (i, j)
+year-within (Some n) y ok i j = omega (arith, ok n refl)
 
 -- a date that is found can be moved by an offset
-pub can-move : (past : ℕ) (date : Date) (y : ℕ) → DateOk date → past ≤ 1 → 1800 ≤ y → y ≤ 10001 → (date_on past date y ≡ 0 → ⊥) →
-    (366 < date_on past date y) × (date_on past date y < 4000000)
+pub can-move : (side : Side) (date : Date) (y n : ℕ) → DateOk date → 1800 ≤ y → y ≤ 10001 → date_on side date y ≡ Some n → (366 < n) × (n < 4000000)
 unfolding date_on
-can-move past date y ok p i j f =
+can-move side date y n ok i j f =
     let z = year_for (own_year date) y in
     omega (
       arith,
-      on-within past date z ok p f,
-      year-within (own_year date) y (own-ok date ok) i j,
+      on-within side date z n ok f,
+      year-within (own_year date) y (λ m. own-ok date m ok) i j,
       years-low z,
       years-high z,
     )
 
-module _ (past : ℕ) (d : DateOffset) (y : ℕ) where
-  pub stays : date_on past d.date y ≡ 0 → 0 ≡ bound_on past d y
+module _ (side : Side) (d : DateOffset) (y : ℕ) where
+  pub stays : date_on side d.date y ≡ None → None ≡ bound_on side d y
   unfolding bound_on
-  stays h = simp (eq-eqb (date_on past d.date y) 0 h)
+  stays h = rw h
 
-  pub moves : (date_on past d.date y ≡ 0 → ⊥) → moved (date_on past d.date y) d.offset ≡ bound_on past d y
+  pub moves : (n : ℕ) → date_on side d.date y ≡ Some n → Some (moved n d.offset) ≡ bound_on side d y
   unfolding bound_on
-  moves h = simp (ne_eqb (date_on past d.date y) 0 h)
+  moves n h = rw h

@@ -1,25 +1,32 @@
--- The day number of a date on a year, as a start or as an end of an interval; 0 is no day.
+-- The day number of a date on a year, as a start or as an end of an interval, or none.
 -- Assumes nothing.
-use Rattle.std.specs.Prelude.{ℕ, zero, suc, ◌+◌, ◌-◌, ◌≤◌, ◌<◌, cond, List, [], ◌∷◌, ◌≡◌, eqb, leb, ℤ, pos, negsuc, nat_abs}
+use Rattle.std.specs.Prelude.{ℕ, zero, suc, ◌+◌, ◌-◌, ◌≤◌, ◌<◌, cond, List, [], ◌∷◌, ◌≡◌, eqb, leb, ℤ, pos, negsuc, nat_abs, Option, Some, None}
+use Rattle.std.specs.Option.{option_map, unwrap_or}
 use Rattle.calendar.specs.Calendar.{leap, month_length, before_month, before_year, day_number, weekday}
 use Rattle.calendar.specs.Moved.{moved}
 use Rattle.easter.specs.Easter.{easter_number}
 use Rattle.rules.specs.declared.Date.{Date}
 use Rattle.rules.specs.declared.Date.TheVariants.{Fixed, Weekday, Easter}
 use Rattle.rules.specs.declared.DateOffset.{DateOffset}
+use Rattle.date_bounds.specs.declared.Side.{Side}
+use Rattle.date_bounds.specs.declared.Side.TheVariants.{Start, End}
 
 -- a fixed date not in its year is so many days past the month's last day: as start the day after it, as end that day
-abbrev pub as_start : ℕ
-as_start = 1
+abbrev pub past : Side → ℕ
+past Start = 1
+past End = 0
 
-abbrev pub as_end : ℕ
-as_end = 0
+abbrev pub as_start : Side
+as_start = Start
 
-unfoldable pub fixed_on : ℕ → ℕ → ℕ → ℕ → ℕ
-fixed_on past y m d =
+abbrev pub as_end : Side
+as_end = End
+
+unfoldable pub fixed_on : Side → ℕ → ℕ → ℕ → ℕ
+fixed_on side y m d =
     cond (leb d (month_length (leap y) m))
     (day_number (record { year = y; month = m; day = d }))
-    (day_number (record { year = y; month = m; day = month_length (leap y) m }) + past)
+    (day_number (record { year = y; month = m; day = month_length (leap y) m }) + past side)
 
 -- the days b + 1 to b + c, from the first, and from the last
 unfoldable pub forward : ℕ → ℕ → List ℕ
@@ -31,40 +38,43 @@ backward b zero = []
 backward b (suc c) = (b + c + 1) ∷ backward b c
 
 -- the kth of the days that fall on weekday w, counted from 1; beyond there is none
-unfoldable pub kth : ℕ → ℕ → List ℕ → ℕ
-kth w k [] = 0
-kth w k (n ∷ ns) = cond (eqb (weekday n) w) (cond (eqb k 1) n (kth w (k - 1) ns)) (kth w k ns)
+unfoldable pub kth : ℕ → ℕ → List ℕ → Option ℕ
+kth w k [] = None
+kth w k (n ∷ ns) = cond (eqb (weekday n) w) (cond (eqb k 1) (Some n) (kth w (k - 1) ns)) (kth w k ns)
 
 -- of the days b + 1 to b + c: nth > 0 counts from the start, nth < 0 from the end; 0 gives no date
-unfoldable pub nth_in : ℕ → ℕ → ℕ → ℤ → ℕ
+unfoldable pub nth_in : ℕ → ℕ → ℕ → ℤ → Option ℕ
 nth_in b c w (pos k) = kth w k (forward b c)
 nth_in b c w (negsuc k) = kth w (suc k) (backward b c)
 
-unfoldable pub nth_on : ℕ → ℕ → ℕ → ℤ → ℕ
+unfoldable pub nth_on : ℕ → ℕ → ℕ → ℤ → Option ℕ
 nth_on y m w nth = nth_in (before_year y + before_month (leap y) m) (month_length (leap y) m) w nth
 
 -- the three forms on a year; their own years are left out
-unfoldable pub on_year : ℕ → Date → ℕ → ℕ
-on_year past (Fixed own m d) y = fixed_on past y m d
-on_year past (Weekday own m w nth) y = nth_on y m w nth
-on_year past (Easter own) y = easter_number y
+unfoldable pub on_year : Side → Date → ℕ → Option ℕ
+on_year side (Fixed own m d) y = Some (fixed_on side y m d)
+on_year side (Weekday own m w nth) y = nth_on y m w nth
+on_year side (Easter own) y = Some (easter_number y)
 
--- a date's own year, 0 for none
-unfoldable pub own_year : Date → ℕ
-own_year (Fixed own m d) = own
-own_year (Weekday own m w nth) = own
-own_year (Easter own) = own
+-- a date's own year; 0 stands for none
+abbrev pub given : ℕ → Option ℕ
+given own = cond (eqb own 0) None (Some own)
+
+unfoldable pub own_year : Date → Option ℕ
+own_year (Fixed own m d) = given own
+own_year (Weekday own m w nth) = given own
+own_year (Easter own) = given own
 
 -- own years win
-unfoldable pub year_for : ℕ → ℕ → ℕ
-year_for own y = cond (eqb own 0) y own
+unfoldable pub year_for : Option ℕ → ℕ → ℕ
+year_for own y = unwrap_or own y
 
-unfoldable pub date_on : ℕ → Date → ℕ → ℕ
-date_on past date y = on_year past date (year_for (own_year date) y)
+unfoldable pub date_on : Side → Date → ℕ → Option ℕ
+date_on side date y = on_year side date (year_for (own_year date) y)
 
 -- offsets are added after
-unfoldable pub bound_on : ℕ → DateOffset → ℕ → ℕ
-bound_on past d y = cond (eqb (date_on past d.date y) 0) 0 (moved (date_on past d.date y) d.offset)
+unfoldable pub bound_on : Side → DateOffset → ℕ → Option ℕ
+bound_on side d y = option_map (λ n. moved n d.offset) (date_on side d.date y)
 
 -- what the reader of images ensures: years 1900 to 9999 or none, and numbers that have a meaning
 pub record YearOk (own : ℕ) : Type 0 where

@@ -1,54 +1,84 @@
--- The forms of a weekday item, case by case, and the shifted day that a holiday item looks up.
+-- The forms of a weekday item, the shifted day that a holiday item looks up, and lists with a matching item.
 -- Assumes nothing.
-use mathlib.Core.Path.{◌≡◌, ap, ◌∙◌}
-use mathlib.Core.Bool.{Bool, true, false, ◌||◌}
+use mathlib.Core.Path.{◌≡◌, refl, sym, ap, ◌∙◌}
+use mathlib.Core.Bool.{Bool, true, false, ◌||◌, false≢true}
+use mathlib.Core.List.{List, [], ◌∷◌}
 use Prim.Native.Nat.{ℕ, ◌≤◌}
 use native.Mathlib.Omega.{arith}
-use lib.IntN.{ℤ, nat_abs}
+use lib.IntN.{ℤ}
 use mir.Syntax.{w16}
 use mir.Val.{to_z, of_z}
+use lib.ListN.{length}
+use borrow.Author.Tests.{eqb-true}
+use Rattle.std.specs.Bool.{◌==◌}
+use Rattle.std.specs.List.{list_any}
 use Rattle.calendar.specs.Moved.{moved_back}
 use Rattle.calendar.proofs.Offsets.{moved_back-low, again}
 use Rattle.days.specs.DayOf.{day_of}
 use Rattle.days.specs.declared.Day.{Day}
-use Rattle.rules.specs.declared.WeekdayRange.{WeekdayRange}
+use Rattle.rules.specs.declared.WeekdayItem.{WeekdayItem}
 use Rattle.rules.specs.declared.WeekdayRange.TheVariants.{Fixed, Holiday}
+use Rattle.holiday_image.specs.Image.{sound}
 use Rattle.date_items.specs.Items.{shifted, weekday_matches}
 use Rattle.date_items.proofs.Laws.{is-day, own-number}
-use Rattle.date_filter.specs.Filter.{Holidays, certain_of, unknown_of, in_image, weekday_item_matches, item_unknown}
+use Rattle.date_ranges.specs.Ranges.{some}
+use Rattle.date_lists.specs.Lists.{list_matches}
+use Rattle.date_filter.specs.Filter.{Holidays, certain_of, unknown_of, in_image, weekday_item_matches, item_unknown, Sound, WeekdayOk}
 
--- an offset comes back from its bits
-pub shift-again : (s d : Day) (z : ℤ) → nat_abs z ≤ 366 → s ≡ shifted d (to_z w16 (of_z w16 z)) → s ≡ shifted d z
-shift-again s d z h e = e ∙ ap (shifted d) (again z h)
+-- the image of each kind is sound
+pub certain_sound : (h : Holidays) → Sound h → (b : Bool) → sound (certain_of h b) ≡ true
+unfolding certain_of
+certain_sound h s true = s.school
+certain_sound h s false = s.public
 
--- the shifted day is a day
-pub shift-day : (s d : Day) (z : ℤ) → nat_abs z ≤ 366 → 693961 ≤ d.number → s ≡ shifted d z → (s ≡ day_of s.number) × (1 ≤ s.number)
-unfolding shifted
-shift-day s d z h k e =
-    (is-day s (moved_back d.number z) e, omega (arith, own-number s (moved_back d.number z) e, moved_back-low d.number z))
+pub unknown_sound : (h : Holidays) → Sound h → (b : Bool) → sound (unknown_of h b) ≡ true
+unfolding unknown_of
+unknown_sound h s true = s.school_unknown
+unknown_sound h s false = s.public_unknown
 
-module _ (h : Holidays) (form : WeekdayRange) (d : Day) where
-  pub on-fixed : {s e f l : ℕ} {z : ℤ} → form ≡ Fixed s e f l z → nat_abs z ≤ 366 → weekday_matches s e f l (to_z w16 (of_z w16 z)) d ≡ weekday_item_matches h form d
+module _ (item : WeekdayItem) (d : Day) (k : WeekdayOk item) where
+  -- an offset comes back from its bits
+  pub on-fixed : (h : Holidays) {s e f l : ℕ} {z : ℤ} → item.form ≡ Fixed s e f l z → weekday_matches s e f l (to_z w16 (of_z w16 z)) d ≡ weekday_item_matches h item.form d
   unfolding weekday_item_matches
-  on-fixed {z = z} e k = rw (e, again z k)
+  on-fixed h {z = z} e = rw (e, again z (rw e at k.form))
 
-  module _ {b : Bool} {z : ℤ} (e : form ≡ Holiday b z) (s : Day) (q : s ≡ shifted d z) where
-    pub on-school : b ≡ true → (in_image h.school s || in_image h.school_unknown s) ≡ weekday_item_matches h form d
-    unfolding weekday_item_matches certain_of unknown_of
-    on-school t = rw (e, t, q)
-
-    pub on-public : b ≡ false → (in_image h.public s || in_image h.public_unknown s) ≡ weekday_item_matches h form d
-    unfolding weekday_item_matches certain_of unknown_of
-    on-public t = rw (e, t, q)
-
-    pub unknown-school : b ≡ true → in_image h.school_unknown s ≡ item_unknown h form d
-    unfolding item_unknown unknown_of
-    unknown-school t = rw (e, t, q)
-
-    pub unknown-public : b ≡ false → in_image h.public_unknown s ≡ item_unknown h form d
-    unfolding item_unknown unknown_of
-    unknown-public t = rw (e, t, q)
-
-  pub never-unknown : {s e f l : ℕ} {z : ℤ} → form ≡ Fixed s e f l z → false ≡ item_unknown h form d
+  pub never-unknown : (h : Holidays) {s e f l : ℕ} {z : ℤ} → item.form ≡ Fixed s e f l z → false ≡ item_unknown h item.form d
   unfolding item_unknown
-  never-unknown e = rw e
+  never-unknown h e = rw e
+
+  module _ {b : Bool} {z : ℤ} (e : item.form ≡ Holiday b z) (s : Day) (q : s ≡ shifted d (to_z w16 (of_z w16 z))) where
+    moved : s ≡ shifted d z
+    moved = q ∙ ap (shifted d) (again z (rw e at k.form))
+
+    -- the shifted day is a day
+    pub shifted-day : 693961 ≤ d.number → (s ≡ day_of s.number) × (1 ≤ s.number)
+    unfolding shifted
+    shifted-day l =
+        let b = rw e at k.form in
+        (is-day s (moved_back d.number z) moved, omega (arith, own-number s (moved_back d.number z) moved, moved_back-low d.number z, b))
+
+    pub on-holiday : (h : Holidays) → (in_image (certain_of h b) s || in_image (unknown_of h b) s) ≡ weekday_item_matches h item.form d
+    unfolding weekday_item_matches
+    on-holiday h = rw (e, moved)
+
+    pub unknown-on : (h : Holidays) → in_image (unknown_of h b) s ≡ item_unknown h item.form d
+    unfolding item_unknown
+    unknown-on h = rw (e, moved)
+
+-- a search of a list finds an item that passes, by induction
+pub some_any : {A : Type 0} (p : A → Bool) (xs : List A) → some p xs ≡ list_any p xs
+unfolding some
+some_any p [] = refl
+some_any p (x ∷ xs) = ap (λ (b : Bool). p x || b) (some_any p xs)
+
+-- what `is_empty` answers
+module _ {A : Type 0} (p : A → Bool) where
+  pub none_listed : (xs : List A) (b : Bool) → b ≡ true → b ≡ (length xs == 0) → b ≡ list_matches p xs
+  unfolding list_matches
+  none_listed [] b t e = t
+  none_listed (x ∷ xs) b t e = let z = eqb-true (length (x ∷ xs)) 0 (sym e ∙ t) in absurd (omega arith)
+
+  pub any_listed : (xs : List A) (b : Bool) → b ≡ false → b ≡ (length xs == 0) → list_any p xs ≡ list_matches p xs
+  unfolding list_matches
+  any_listed [] b f e = absurd (false≢true (sym f ∙ e))
+  any_listed (x ∷ xs) b f e = sym (some_any p (x ∷ xs))

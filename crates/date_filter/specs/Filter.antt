@@ -1,32 +1,18 @@
 -- A rule's match on a day, and whether its kind becomes unknown there.
 -- Assumes nothing.
-use Rattle.std.specs.Prelude.{ℕ, ◌≤◌, Bool, true, false, cond, ◌&&◌, ◌||◌, List, ◌≡◌, nat_abs, take}
+use Rattle.std.specs.Prelude.{ℕ, ◌≤◌, Bool, true, false, ◌&&◌, ◌||◌, List, ◌≡◌, nat_abs, take, All}
 use Rattle.days.specs.declared.Day.{Day}
+use Rattle.days.specs.DayOf.{day_of}
 use Rattle.rules.specs.declared.WeekdayRange.{WeekdayRange}
 use Rattle.rules.specs.declared.WeekdayRange.TheVariants.{Fixed, Holiday}
 use Rattle.rules.specs.declared.WeekdayItem.{WeekdayItem}
 use Rattle.rules.specs.declared.Rule.{Rule}
+pub use Rattle.images.specs.Images.{Holidays, images}
+unfoldable pub use Rattle.images.specs.Images.{certain_of, unknown_of}
 use Rattle.holiday_image.specs.Image.{names, sound}
 use Rattle.date_items.specs.Items.{shifted, weekday_matches}
 use Rattle.date_ranges.specs.Ranges.{some}
-use Rattle.date_lists.specs.Lists.{list_matches, years_match, weeks_match, monthdays_match, Each, YearItemOk, WeekItemOk, MonthdayOk}
-
--- the four images
-pub record Holidays : Type 0 where
-  pub public : List ℕ
-  pub public_unknown : List ℕ
-  pub school : List ℕ
-  pub school_unknown : List ℕ
-
-abbrev pub images : List ℕ → List ℕ → List ℕ → List ℕ → Holidays
-images a b c d = record { public = a; public_unknown = b; school = c; school_unknown = d }
-
--- the certain and the unknown image of a kind
-unfoldable pub certain_of : Holidays → Bool → List ℕ
-certain_of h school = cond school h.school h.public
-
-unfoldable pub unknown_of : Holidays → Bool → List ℕ
-unknown_of h school = cond school h.school_unknown h.public_unknown
+use Rattle.date_lists.specs.Lists.{list_matches, years_match, weeks_match, monthdays_match, YearItemOk, WeekItemOk, MonthdayOk}
 
 unfoldable pub in_image : List ℕ → Day → Bool
 in_image image d = names image (record { year = d.year; month = d.month; day = d.day })
@@ -73,9 +59,16 @@ pub record Sound (h : Holidays) : Type 0 where
   pub school : sound h.school ≡ true
   pub school_unknown : sound h.school_unknown ≡ true
 
+-- what is asked: sound images, and a day from 1899-12-31 to 9999-12-31
+pub record Asked (h : Holidays) (d : Day) : Type 0 where
+  pub sound : Sound h
+  pub day : d ≡ day_of d.number
+  pub low : 693961 ≤ d.number
+  pub high : d.number ≤ 3652425
+
 pub record RuleOk (r : Rule) : Type 0 where
-  pub years : Each YearItemOk r.year_count r.years
-  pub monthdays : Each MonthdayOk r.monthday_count r.monthdays
-  pub weeks : Each WeekItemOk r.week_count r.weeks
-  pub weekdays : Each WeekdayOk r.weekday_count r.weekdays
+  pub years : All YearItemOk (take r.year_count r.years)
+  pub monthdays : All MonthdayOk (take r.monthday_count r.monthdays)
+  pub weeks : All WeekItemOk (take r.week_count r.weeks)
+  pub weekdays : All WeekdayOk (take r.weekday_count r.weekdays)
   pub counts : (r.year_count ≤ 8) × (r.monthday_count ≤ 8) × (r.week_count ≤ 8) × (r.weekday_count ≤ 8)

@@ -1,13 +1,13 @@
 // A rule's match on a day, over the four holiday images.
 #![tactic(auto)]
 
-ghost use Rattle.std.specs.Prelude.{◌≡◌, true, ◌||◌, ◌≤◌, ◌<◌, take};
+ghost use Rattle.std.specs.Prelude.{◌≡◌, true, ◌||◌, ◌≤◌, ◌<◌, take, All};
 ghost use Rattle.days.specs.DayOf.{day_of};
 ghost use Rattle.holiday_image.specs.Image.{sound};
-ghost use Rattle.date_lists.specs.Lists.{Each};
-ghost use Rattle.date_filter.specs.Filter.{images, in_image, weekday_item_matches, weekdays_match, rule_matches, item_unknown, rule_unknown, weekdays_unknown, WeekdayOk, Sound, RuleOk};
+ghost use Rattle.date_filter.specs.Filter.{certain_of, unknown_of, in_image, weekday_item_matches, weekdays_match, rule_matches, item_unknown, rule_unknown, weekdays_unknown, WeekdayOk, Sound, Asked, RuleOk};
 
 use days::Day;
+use images::Images;
 use rules::{Rule, WeekdayItem, WeekdayRange};
 
 fn in_image(image: &[u8], d: Day) -> bool
@@ -24,29 +24,18 @@ fn in_image(image: &[u8], d: Day) -> bool
     )
 }
 
-fn holiday_on(certain: &[u8], unknown: &[u8], d: Day) -> bool
-    requires { (sound certain.now ≡ true) × (sound unknown.now ≡ true) × (d ≡ day_of d.number) × (1 ≤ d.number) }
-    ensures { result ≡ (in_image certain.now d || in_image unknown.now d) }
+fn holiday_on(h: &Images<'_>, of_school: bool, d: Day) -> bool
+    requires { Sound h.now × (d ≡ day_of d.number) × (1 ≤ d.number) }
+    ensures { result ≡ (in_image (certain_of h.now of_school) d || in_image (unknown_of h.now of_school) d) }
 {
-    if in_image(certain, d) {
-        return true;
-    }
-    in_image(unknown, d)
+    in_image(h.certain(of_school), d) || in_image(h.unknown(of_school), d)
 }
 
-fn weekday_item_matches(
-    public: &[u8],
-    public_unknown: &[u8],
-    school: &[u8],
-    school_unknown: &[u8],
-    item: WeekdayItem,
-    d: Day,
-) -> bool
-    requires { Sound (images public.now public_unknown.now school.now school_unknown.now) × WeekdayOk item × (d ≡ day_of d.number) × (693961 ≤ d.number) × (d.number ≤ 3652425) }
-    ensures { result ≡ weekday_item_matches (images public.now public_unknown.now school.now school_unknown.now) item.form d }
+fn weekday_item_matches(h: &Images<'_>, item: &WeekdayItem, d: Day) -> bool
+    requires { Asked h.now d × WeekdayOk item.now }
+    ensures { result ≡ weekday_item_matches h.now item.now.form d }
 {
-    let form = item.form;
-    match form {
+    match item.form {
         WeekdayRange::Fixed {
             start,
             end,
@@ -54,156 +43,57 @@ fn weekday_item_matches(
             from_end,
             offset,
         } => date_items::weekday_matches(start, end, from_start, from_end, offset, d),
-        WeekdayRange::Holiday {
-            school: of_school,
-            offset,
-        } => {
-            let s = date_items::shifted(d, offset);
-            if of_school {
-                return holiday_on(school, school_unknown, s);
-            }
-            holiday_on(public, public_unknown, s)
-        }
+        WeekdayRange::Holiday { school, offset } => holiday_on(
+            h,
+            school,
+            date_items::shifted(d, offset),
+        ),
     }
 }
 
-fn weekdays_match(
-    public: &[u8],
-    public_unknown: &[u8],
-    school: &[u8],
-    school_unknown: &[u8],
-    items: [WeekdayItem; 8],
-    count: usize,
-    d: Day,
-) -> bool
-    requires { Sound (images public.now public_unknown.now school.now school_unknown.now) × (count ≤ 8) × Each WeekdayOk count items × (d ≡ day_of d.number) × (693961 ≤ d.number) × (d.number ≤ 3652425) }
-    ensures { result ≡ weekdays_match (images public.now public_unknown.now school.now school_unknown.now) (take count items) d }
+fn weekdays_match(h: &Images<'_>, items: &[WeekdayItem], d: Day) -> bool
+    requires { Asked h.now d × All WeekdayOk items.now }
+    ensures { result ≡ weekdays_match h.now items.now d }
 {
-    if count == 0 {
-        return true;
-    }
-    let mut i = 0;
-    while i < count {
-        let item = items[i];
-        i += 1;
-        if weekday_item_matches(public, public_unknown, school, school_unknown, item, d) {
-            return true;
-        }
-    }
-    false
+    items.is_empty() || items.iter().any(|item| weekday_item_matches(h, item, d))
 }
 
-pub fn rule_matches(
-    public: &[u8],
-    public_unknown: &[u8],
-    school: &[u8],
-    school_unknown: &[u8],
-    rule: Rule,
-    d: Day,
-) -> bool
-    requires { Sound (images public.now public_unknown.now school.now school_unknown.now) × RuleOk rule × (d ≡ day_of d.number) × (693961 ≤ d.number) × (d.number ≤ 3652425) }
-    ensures { result ≡ rule_matches (images public.now public_unknown.now school.now school_unknown.now) rule d }
+#[tactic(auto, unfolding(crate::specs::Filter::rule_matches))]
+pub fn rule_matches(h: &Images<'_>, rule: &Rule, d: Day) -> bool
+    requires { Asked h.now d × RuleOk rule.now }
+    ensures { result ≡ rule_matches h.now rule.now d }
 {
-    let years = rule.years;
-    if date_lists::years_match(years, rule.year_count, d) {
-        let monthdays = rule.monthdays;
-        if date_lists::monthdays_match(monthdays, rule.monthday_count, d) {
-            let weeks = rule.weeks;
-            if date_lists::weeks_match(weeks, rule.week_count, d) {
-                let weekdays = rule.weekdays;
-                return weekdays_match(
-                    public,
-                    public_unknown,
-                    school,
-                    school_unknown,
-                    weekdays,
-                    rule.weekday_count,
-                    d,
-                );
-            }
-            return false;
-        }
-        return false;
-    }
-    false
+    date_lists::years_match(&rule.years[..rule.year_count], d)
+        && date_lists::monthdays_match(&rule.monthdays[..rule.monthday_count], d)
+        && date_lists::weeks_match(&rule.weeks[..rule.week_count], d)
+        && weekdays_match(h, &rule.weekdays[..rule.weekday_count], d)
 }
 
-fn item_unknown(
-    public: &[u8],
-    public_unknown: &[u8],
-    school: &[u8],
-    school_unknown: &[u8],
-    item: WeekdayItem,
-    d: Day,
-) -> bool
-    requires { Sound (images public.now public_unknown.now school.now school_unknown.now) × WeekdayOk item × (d ≡ day_of d.number) × (693961 ≤ d.number) × (d.number ≤ 3652425) }
-    ensures { result ≡ item_unknown (images public.now public_unknown.now school.now school_unknown.now) item.form d }
+fn item_unknown(h: &Images<'_>, item: &WeekdayItem, d: Day) -> bool
+    requires { Asked h.now d × WeekdayOk item.now }
+    ensures { result ≡ item_unknown h.now item.now.form d }
 {
-    let form = item.form;
-    match form {
-        WeekdayRange::Fixed {
-            start: _,
-            end: _,
-            from_start: _,
-            from_end: _,
-            offset: _,
-        } => false,
-        WeekdayRange::Holiday {
-            school: of_school,
-            offset,
-        } => {
-            let s = date_items::shifted(d, offset);
-            if of_school {
-                return in_image(school_unknown, s);
-            }
-            in_image(public_unknown, s)
-        }
+    match item.form {
+        WeekdayRange::Fixed { .. } => false,
+        WeekdayRange::Holiday { school, offset } => in_image(
+            h.unknown(school),
+            date_items::shifted(d, offset),
+        ),
     }
 }
 
-fn weekdays_unknown(
-    public: &[u8],
-    public_unknown: &[u8],
-    school: &[u8],
-    school_unknown: &[u8],
-    items: [WeekdayItem; 8],
-    count: usize,
-    d: Day,
-) -> bool
-    requires { Sound (images public.now public_unknown.now school.now school_unknown.now) × (count ≤ 8) × Each WeekdayOk count items × (d ≡ day_of d.number) × (693961 ≤ d.number) × (d.number ≤ 3652425) }
-    ensures { result ≡ weekdays_unknown (images public.now public_unknown.now school.now school_unknown.now) (take count items) d }
+fn weekdays_unknown(h: &Images<'_>, items: &[WeekdayItem], d: Day) -> bool
+    requires { Asked h.now d × All WeekdayOk items.now }
+    ensures { result ≡ weekdays_unknown h.now items.now d }
 {
-    let mut i = 0;
-    while i < count {
-        let item = items[i];
-        i += 1;
-        if item_unknown(public, public_unknown, school, school_unknown, item, d) {
-            return true;
-        }
-    }
-    false
+    items.iter().any(|item| item_unknown(h, item, d))
 }
 
 // Asked of a rule that matches.
-pub fn rule_unknown(
-    public: &[u8],
-    public_unknown: &[u8],
-    school: &[u8],
-    school_unknown: &[u8],
-    rule: Rule,
-    d: Day,
-) -> bool
-    requires { Sound (images public.now public_unknown.now school.now school_unknown.now) × RuleOk rule × (d ≡ day_of d.number) × (693961 ≤ d.number) × (d.number ≤ 3652425) }
-    ensures { result ≡ rule_unknown (images public.now public_unknown.now school.now school_unknown.now) rule d }
+#[tactic(auto, unfolding(crate::specs::Filter::rule_unknown))]
+pub fn rule_unknown(h: &Images<'_>, rule: &Rule, d: Day) -> bool
+    requires { Asked h.now d × RuleOk rule.now }
+    ensures { result ≡ rule_unknown h.now rule.now d }
 {
-    let weekdays = rule.weekdays;
-    weekdays_unknown(
-        public,
-        public_unknown,
-        school,
-        school_unknown,
-        weekdays,
-        rule.weekday_count,
-        d,
-    )
+    weekdays_unknown(h, &rule.weekdays[..rule.weekday_count], d)
 }

@@ -20,17 +20,6 @@ use Rattle.days.specs.declared.Day.{Day}
 use Rattle.date_items.specs.Items.{first_of, last_of, year_months_match}
 use Rattle.date_items.specs.Parts.{last_month}
 
--- the places of the flags are powers of two: one test over the table
-pub place : (i : ℕ) → i < 5 → get_or (16 ∷ 8 ∷ 4 ∷ 2 ∷ 1 ∷ []) i 0 ≡ 2 ^ (4 - i)
-place i h = tabled (λ k. 2 ^ (4 - k)) (16 ∷ 8 ∷ 4 ∷ 2 ∷ 1 ∷ []) tt i h
-
-low : ℕ → Bool
-low i = leb 1 (2 ^ (4 - i))
-
-pub place-low : (i : ℕ) → i < 5 → 1 ≤ 2 ^ (4 - i)
-unfolding low
-place-low i h = leb→le _ _ (holds low 5 tt i h)
-
 -- a day's date
 abbrev pub date : Day → Date
 date d = record { year = d.year; month = d.month; day = d.day }
@@ -66,6 +55,9 @@ module _ (d : Day) (e : d ≡ day_of d.number) (h : 1 ≤ d.number) where
         day-valid.day_high,
         length_high (leap d.year) d.month day-valid.month_low day-valid.month_high,
       )
+
+-- what a function that asks for a day's place in its month goes by
+pub ruleset month_bounds = (in-month)
 
 -- a day of an earlier month has a lower number; months are counted from the year 0
 pub sooner : (d e : Date) → Valid d → 1 ≤ e.month → e.month ≤ 12 → 1 ≤ e.day →

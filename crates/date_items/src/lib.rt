@@ -9,55 +9,57 @@ ghost use Rattle.date_items.specs.Parts.{last_month};
 use days::Day;
 use rules::{WeekItem, YearItem};
 
+#[tactic(auto, unfolding(crate::specs::Items::stepped))]
 fn stepped(start: u32, end: u32, step: u32, x: u32) -> bool
     requires { 1 ≤ step }
     ensures { result ≡ stepped start end step x }
 {
-    if x < start {
-        return false;
-    }
-    if end < x {
-        return false;
-    }
-    (x - start) % step == 0
+    (start..=end).contains(&x) && (x - start) % step == 0
 }
 
+#[tactic(auto, unfolding(crate::specs::Items::year_matches))]
 pub fn year_matches(item: YearItem, d: Day) -> bool
     requires { 1 ≤ item.step }
     ensures { result ≡ year_matches item d }
 {
-    stepped(item.start as u32, item.end as u32, item.step as u32, d.year)
+    stepped(
+        u32::from(item.start),
+        u32::from(item.end),
+        u32::from(item.step),
+        d.year,
+    )
 }
 
+#[tactic(auto, unfolding(crate::specs::Items::week_matches))]
 pub fn week_matches(item: WeekItem, d: Day) -> bool
     requires { 1 ≤ item.step }
     ensures { result ≡ week_matches item d }
 {
-    stepped(item.start as u32, item.end as u32, item.step as u32, d.week)
+    stepped(
+        u32::from(item.start),
+        u32::from(item.end),
+        u32::from(item.step),
+        d.week,
+    )
 }
 
+#[tactic(auto, unfolding(crate::specs::Items::circular))]
 fn circular(start: u32, end: u32, x: u32) -> bool
     ensures { result ≡ circular start end x }
 {
     if start <= end {
-        if x < start {
-            return false;
-        }
-        return x <= end;
+        start <= x && x <= end
+    } else {
+        start <= x || x <= end
     }
-    if start <= x {
-        return true;
-    }
-    x <= end
 }
 
-const PLACES: [u32; 5] = [16, 8, 4, 2, 1];
-
-fn flag(flags: u32, i: usize) -> bool
+#[tactic(auto, unfolding(crate::specs::Items::flag))]
+fn flag(flags: u8, i: u32) -> bool
     requires { i < 5 }
     ensures { result ≡ flag flags i }
 {
-    flags / PLACES[i] % 2 == 1
+    (flags >> (4 - i)) % 2 == 1
 }
 
 // The day that lies an offset before d.
@@ -68,44 +70,39 @@ pub fn shifted(d: Day, offset: i16) -> Day
     if offset == 0 {
         return d;
     }
-    days::back(d, offset as i32)
+    days::back(d, i32::from(offset))
 }
 
 // The flags from the month's start and from its end are `firsts` and `lasts`.
+#[tactic(auto, using(crate::proofs::Laws::month_bounds), unfolding(crate::specs::Items::weekday_on))]
 fn weekday_on(start: u8, end: u8, firsts: u8, lasts: u8, d: Day) -> bool
     requires { (d ≡ day_of d.number) × (1 ≤ d.number) }
     ensures { result ≡ weekday_on start end firsts lasts d }
 {
-    if circular(start as u32, end as u32, d.weekday) {
-        let first = (d.day - 1) / 7;
-        if flag(firsts as u32, first as usize) {
-            return true;
-        }
-        let last = (d.length - d.day) / 7;
-        return flag(lasts as u32, last as usize);
-    }
-    false
+    circular(u32::from(start), u32::from(end), d.weekday)
+        && (flag(firsts, (d.day - 1) / 7) || flag(lasts, (d.length - d.day) / 7))
 }
 
 pub fn weekday_matches(start: u8, end: u8, firsts: u8, lasts: u8, offset: i16, d: Day) -> bool
     requires { (d ≡ day_of d.number) × (2000 ≤ d.number) × (d.number < 5000000) × (nat_abs offset ≤ 366) }
     ensures { result ≡ weekday_matches start end firsts lasts offset d }
 {
-    let s = shifted(d, offset);
-    weekday_on(start, end, firsts, lasts, s)
+    weekday_on(start, end, firsts, lasts, shifted(d, offset))
 }
 
+#[tactic(auto, unfolding(crate::specs::Items::months_match))]
 pub fn months_match(start: u8, end: u8, d: Day) -> bool
     ensures { result ≡ months_match start end d }
 {
-    circular(start as u32, end as u32, d.month)
+    circular(u32::from(start), u32::from(end), d.month)
 }
 
 // The month that the range ends in, counted from the year 0 as all months are here: no day number is needed.
+#[tactic(auto, unfolding(crate::specs::Parts::last_month))]
 fn last_month(year: u16, start: u8, end: u8) -> u32
     ensures { result ≡ last_month year start end }
 {
-    let last = (year as u32) * 12 + (end as u32);
+    let last = u32::from(year) * 12 + u32::from(end);
     if end < start { last + 12 } else { last }
 }
 
@@ -114,13 +111,7 @@ pub fn year_months_match(year: u16, start: u8, end: u8, d: Day) -> bool
     ensures { result ≡ year_months_match year start end d }
 {
     let month = d.year * 12 + d.month;
-    let first = (year as u32) * 12 + (start as u32);
-    if month < first {
-        return false;
-    }
+    let first = u32::from(year) * 12 + u32::from(start);
     let last = last_month(year, start, end);
-    if month == last {
-        return d.day == 1;
-    }
-    month < last
+    first <= month && (month < last || month == last && d.day == 1)
 }

@@ -1,14 +1,17 @@
 -- The loop over the first n items of a room: what holds of those left holds of all.
 -- Assumes nothing.
-use mathlib.Core.Path.{◌≡◌, refl, sym, ◌∙◌}
-use mathlib.Core.Bool.{Bool, true, false, ◌||◌}
+use mathlib.Core.Path.{◌≡◌, refl, ap, sym, ◌∙◌}
+use mathlib.Core.Bool.{Bool, true, false, ◌||◌, false≢true}
+use borrow.Author.Tests.{eqb-true}
+use lib.Dec.{eqb}
 use mathlib.Core.List.{List, [], ◌∷◌, map}
-use Prim.Native.Nat.{ℕ, zero, suc, ◌+◌, ◌≤◌, ◌<◌}
+use Prim.Native.Nat.{ℕ, ◌+◌, ◌≤◌, ◌<◌}
 use native.Mathlib.Numerals.{add-one}
 use native.Mathlib.Omega.{arith}
 use lib.ListN.{length, take, drop, get_or, length-take, length-map, drop_of_length-le}
 use lib.Seq.{drop-cons, get_or-take}
 use Rattle.date_ranges.specs.Ranges.{some}
+use Rattle.std.specs.List.{list_any}
 use Rattle.date_lists.specs.Lists.{list_matches}
 
 -- the length of an array of structs, as it is known
@@ -36,11 +39,6 @@ unfolding some
 some-nil p = refl
 
 module _ {A : Type 0} (p : A → Bool) (xs : List A) (n : ℕ) where
-  -- an empty list asks for nothing, another for an item that matches
-  pub no_items : n ≡ 0 → true ≡ list_matches p (take n xs)
-  unfolding list_matches
-  no_items h = rw h
-
   pub looking : n ≤ length xs → Looked p xs n 0
   looking h = record { long = h; upto = omega arith; left = refl }
 
@@ -58,8 +56,19 @@ module _ {A : Type 0} (p : A → Bool) (xs : List A) (n : ℕ) where
     pub ended : n ≤ i → false ≡ some p (take n xs)
     ended h = sym (rw (peeled xs n i h, some-nil p) at st.left)
 
-pub lists : {A : Type 0} (p : A → Bool) (xs : List A) (n : ℕ) → 1 ≤ n → n ≤ length xs → some p (take n xs) ≡ list_matches p (take n xs)
-unfolding list_matches
-lists p [] n h k = absurd (omega arith)
-lists p (x ∷ xs) zero h k = absurd (omega arith)
-lists p (x ∷ xs) (suc n) h k = refl
+some_any : {A : Type 0} (p : A → Bool) (xs : List A) → some p xs ≡ list_any p xs
+unfolding some
+some_any p [] = refl
+some_any p (x ∷ xs) = ap (λ b. p x || b) (some_any p xs)
+
+-- an empty list asks for nothing, another for an item that matches
+module _ {A : Type 0} (p : A → Bool) where
+  pub none_listed : (xs : List A) (b : Bool) → b ≡ true → b ≡ eqb (length xs) 0 → b ≡ list_matches p xs
+  unfolding list_matches
+  none_listed [] b t e = t
+  none_listed (x ∷ xs) b t e = let z = eqb-true (length (x ∷ xs)) 0 (sym e ∙ t) in absurd (omega arith)
+
+  pub any_listed : (xs : List A) (b : Bool) → b ≡ false → b ≡ eqb (length xs) 0 → list_any p xs ≡ list_matches p xs
+  unfolding list_matches
+  any_listed [] b f e = absurd (false≢true (sym f ∙ e))
+  any_listed (x ∷ xs) b f e = sym (some_any p (x ∷ xs))

@@ -1,6 +1,6 @@
 -- The lists of a rule that need no holidays: empty, or with a matching item.
 -- Assumes nothing.
-use Rattle.std.specs.Prelude.{ℕ, ◌≤◌, ◌<◌, Bool, true, List, [], ◌∷◌, get_or}
+use Rattle.std.specs.Prelude.{◌≤◌, Bool, true, List, [], ◌∷◌}
 use Rattle.days.specs.declared.Day.{Day}
 use Rattle.rules.specs.declared.Monthday.{Monthday}
 use Rattle.rules.specs.declared.Monthday.TheVariants.{Months, YearMonths, Dates}
@@ -45,7 +45,3 @@ FormOk (Dates start end) = BoundOk start × BoundOk end
 
 pub record MonthdayOk (i : MonthdayItem) : Type 0 where
   pub form : FormOk i.form
-
--- each of the first n
-pub record Each {A : Type 0} (P : A → Type 0) (n : ℕ) (xs : List A) : Type 0 where
-  pub at : (i : ℕ) (none : A) → i < n → P (get_or xs i none)

@@ -1,13 +1,13 @@
 -- Leap days far off never match, and a day lies in its year.
 -- Assumes nothing.
-use mathlib.Core.Path.{◌≡◌, refl, ap, sym, ◌∙◌}
+use mathlib.Core.Path.{◌≡◌, refl, ap, ◌∙◌}
 use mathlib.Core.Bool.{Bool, true, false, cond, ◌&&◌, ◌||◌}
 use mathlib.Core.List.{List}
+use Rattle.std.proofs.Common.{Option, Some, None}
+use Rattle.std.specs.Option.{option_or}
 use Prim.Native.Nat.{ℕ, ◌+◌, ◌-◌, ◌≤◌, ◌<◌}
 use native.Mathlib.Omega.{arith}
-use native.Mathlib.Decide.{ℕ_discrete}
-use borrow.Author.Tests.{lt-leb, eq-eqb, ne_eqb}
-use lib.Dec.{eqb}
+use borrow.Author.Tests.{lt-leb}
 use lib.IntN.{ℤ, nat_abs}
 use mir.Syntax.{w16}
 use mir.Val.{to_z, of_z}
@@ -20,13 +20,11 @@ use Rattle.calendar.proofs.Offsets.{moved-high, again}
 use Rattle.days.specs.DayOf.{day_of}
 use Rattle.days.specs.declared.Day.{Day}
 use Rattle.days.proofs.Laws.{known, year-from}
-use Rattle.rules.specs.declared.Date.{Date}
-use Rattle.rules.specs.declared.Date.TheVariants.{Fixed, Weekday, Easter}
 use Rattle.rules.specs.declared.DateOffset.{DateOffset}
 use Rattle.intervals.specs.Intervals.{intervals, decides}
-use Rattle.date_bounds.specs.Bounds.{own_year, year_for, YearOk, BoundOk, Before}
-use Rattle.date_bounds.proofs.OnYear.{moved-low, own-ok, year-any, year-own}
-use Rattle.date_ranges.specs.Ranges.{inside, first_proper, is_leap_day, leap_day, leap_day_in, some, leap_days_match, other_match, undated_match, given_year, dated_match, dates_match}
+use Rattle.date_bounds.specs.Bounds.{own_year, BoundOk, Before}
+use Rattle.date_bounds.proofs.OnYear.{moved-low, own-ok}
+use Rattle.date_ranges.specs.Ranges.{match_in, inside, first_proper, leap_day, leap_day_in, some, leap_days_match, undated_match, given_year, dated_match, dates_match}
 
 and-false : (b : Bool) → (b && false) ≡ false
 and-false true = refl
@@ -96,17 +94,6 @@ module _ (a b : ℤ) (n y : ℕ) (i : nat_abs a ≤ 366) (j : nat_abs b ≤ 366)
         or-false,
       )
 
--- where three tests in turn stop
-module _ (p q r : Bool) where
-  pub at_first : p ≡ true → true ≡ (p || (q || r))
-  at_first e = rw e
-
-  pub at_second : p ≡ false → q ≡ true → true ≡ (p || (q || r))
-  at_second e f = rw (e, f)
-
-  pub at-third : p ≡ false → q ≡ false → r ≡ (p || (q || r))
-  at-third e f = rw (e, f)
-
 -- the days before a day's year
 module _ (d : Day) (e : d ≡ day_of d.number) (h : 693961 ≤ d.number) (k : d.number ≤ 3652425) where
   in-its-year : Settled d.number d.year d.ordinal
@@ -130,33 +117,11 @@ module _ (d : Day) (e : d ≡ day_of d.number) (h : 693961 ≤ d.number) (k : d.
   in_reach = omega (arith, in-its-year.counted, in-its-year.low, in-its-year.high, year-high (leap d.year))
 
 -- equal bounds give equal answers
-pub same-proper : {s a e l t b f m : ℕ} (n : ℕ) → s ≡ t → a ≡ b → e ≡ f → l ≡ m → first_proper s a e l n ≡ first_proper t b f m n
+pub same-proper : {s a e l t b f m : Option ℕ} (n : ℕ) → s ≡ t → a ≡ b → e ≡ f → l ≡ m → first_proper s a e l n ≡ first_proper t b f m n
 same-proper n p q r t = rw (p, q, r, t)
 
-pub same-intervals : {s t e f : List ℕ} (n : ℕ) → s ≡ t → e ≡ f → decides n (intervals s e) ≡ decides n (intervals t f)
+pub same-intervals : {s t e f : List (Option ℕ)} (n : ℕ) → s ≡ t → e ≡ f → decides n (intervals s e) ≡ decides n (intervals t f)
 same-intervals n p q = rw (p, q)
-
--- 29 February among the forms of a date
-module _ (date : Date) {own m d : ℕ} (e : date ≡ Fixed own m d) where
-  pub day-asked : own ≡ 0 → m ≡ 2 → eqb d 29 ≡ is_leap_day date
-  unfolding is_leap_day
-  day-asked h k = rw e (simp (eq-eqb own 0 h, eq-eqb m 2 k))
-
-  pub other-month : own ≡ 0 → (m ≡ 2 → ⊥) → false ≡ is_leap_day date
-  unfolding is_leap_day
-  other-month h k = rw e (simp (eq-eqb own 0 h, ne_eqb m 2 k))
-
-  pub has-year : (own ≡ 0 → ⊥) → false ≡ is_leap_day date
-  unfolding is_leap_day
-  has-year h = rw e (simp (ne_eqb own 0 h))
-
-pub at-weekday : (date : Date) {own m w : ℕ} {nth : ℤ} → date ≡ Weekday own m w nth → false ≡ is_leap_day date
-unfolding is_leap_day
-at-weekday date e = rw e
-
-pub at-easter : (date : Date) {own : ℕ} → date ≡ Easter own → false ≡ is_leap_day date
-unfolding is_leap_day
-at-easter date e = rw e
 
 -- a leap year has its interval, a common year none
 module _ (a b : ℤ) (n y before : ℕ) where
@@ -168,49 +133,34 @@ module _ (a b : ℤ) (n y before : ℕ) where
   unfolding leap_day_in
   leap-no h = rw h
 
+-- so that the code's three tests are the definition
+pub three_tests : (a b : ℤ) (y n : ℕ) → nat_abs a ≤ 366 → nat_abs b ≤ 366 → 4 ≤ y → before_year y < n → n ≤ before_year y + 366 →
+    leap_days_match a b y n ≡
+    (leap_day_in (to_z w16 (of_z w16 a)) (to_z w16 (of_z w16 b)) n (y - 1)
+    || (leap_day_in (to_z w16 (of_z w16 a)) (to_z w16 (of_z w16 b)) n y || leap_day_in (to_z w16 (of_z w16 a)) (to_z w16 (of_z w16 b)) n (y + 1)))
+three_tests a b y n h k i l m = rw (again a h, again b k) (three-years a b n y h k i l m)
+
 -- offsets come back from their bits
-pub kept : (a b : ℤ) (n y : ℕ) → nat_abs a ≤ 366 → nat_abs b ≤ 366 → leap_day_in (to_z w16 (of_z w16 a)) (to_z w16 (of_z w16 b)) n y ≡ leap_day_in a b n y
-kept a b n y h k = rw (again a h, again b k)
-
-pub kept-all : (a b : ℤ) (y n : ℕ) → nat_abs a ≤ 366 → nat_abs b ≤ 366 → leap_days_match (to_z w16 (of_z w16 a)) (to_z w16 (of_z w16 b)) y n ≡ leap_days_match a b y n
-kept-all a b y n h k = rw (again a h, again b k)
-
--- which rule applies
-module _ (start end : DateOffset) (y n : ℕ) where
-  pub both-leap : is_leap_day start.date ≡ true → is_leap_day end.date ≡ true → leap_days_match start.offset end.offset y n ≡ undated_match start end y n
-  unfolding undated_match
-  both-leap e f = simp (e, f)
-
-  pub start-leap : is_leap_day start.date ≡ true → is_leap_day end.date ≡ false → other_match start end y n ≡ undated_match start end y n
-  unfolding undated_match
-  start-leap e f = simp (e, f)
-
-  pub not-leap : is_leap_day start.date ≡ false → other_match start end y n ≡ undated_match start end y n
-  unfolding undated_match
-  not-leap e = simp e
+pub kept_all : (a b : ℤ) (y n : ℕ) → nat_abs a ≤ 366 → nat_abs b ≤ 366 → leap_days_match (to_z w16 (of_z w16 a)) (to_z w16 (of_z w16 b)) y n ≡ leap_days_match a b y n
+kept_all a b y n h k = rw (again a h, again b k)
 
 module _ (start end : DateOffset) where
-  pub given_is : {a b : ℕ} → a ≡ own_year start.date → b ≡ own_year end.date → year_for a b ≡ given_year start end
+  pub given_is : {a b : Option ℕ} → a ≡ own_year start.date → b ≡ own_year end.date → option_or a b ≡ given_year start end
   unfolding given_year
   given_is e f = rw (e, f)
 
-  given-in : (a b : ℕ) → YearOk a → YearOk b → (year_for a b ≡ 0 → ⊥) → (1900 ≤ year_for a b) × (year_for a b ≤ 9999)
-  given-in a b k l f = by_cases (ℕ_discrete a 0)
-    where
-      by_cases : Dec (a ≡ 0) → (1900 ≤ year_for a b) × (year_for a b ≤ 9999)
-      by_cases (yes z) =
-          let e = year-any a b z in
-          omega (arith, e, l.low (λ q. f (sym e ∙ q)), l.high)
-      by_cases (no z) = omega (arith, year-own a b z, k.low z, k.high)
-
-  pub given-within : BoundOk start → BoundOk end → (given_year start end ≡ 0 → ⊥) → (1900 ≤ given_year start end) × (given_year start end ≤ 9999)
+  pub given-within : (n : ℕ) → BoundOk start → BoundOk end → given_year start end ≡ Some n → (1900 ≤ n) × (n ≤ 9999)
   unfolding given_year
-  given-within k l f = given-in (own_year start.date) (own_year end.date) (own-ok start.date k.date) (own-ok end.date l.date) f
+  given-within n k l e = by_cases (own_year start.date) refl e
+    where
+      by_cases : (o : Option ℕ) → own_year start.date ≡ o → option_or o (own_year end.date) ≡ Some n → (1900 ≤ n) × (n ≤ 9999)
+      by_cases (Some y) f g = own-ok start.date n k.date (f ∙ g)
+      by_cases None f g = own-ok end.date n l.date g
 
-  pub no-year : (d : Day) → given_year start end ≡ 0 → undated_match start end d.year d.number ≡ dates_match start end d
-  unfolding dates_match
-  no-year d e = simp (eq-eqb (given_year start end) 0 e)
+  pub no-year : (d : Day) → given_year start end ≡ None → undated_match start end d.year d.number ≡ dates_match start end d
+  unfolding dates_match match_in
+  no-year d e = rw e
 
-  pub with-year : (d : Day) → (given_year start end ≡ 0 → ⊥) → dated_match start end (given_year start end) d.number ≡ dates_match start end d
-  unfolding dates_match
-  with-year d f = simp (ne_eqb (given_year start end) 0 f)
+  pub with-year : (d : Day) (y : ℕ) → given_year start end ≡ Some y → dated_match start end y d.number ≡ dates_match start end d
+  unfolding dates_match match_in
+  with-year d y e = rw e

@@ -1,6 +1,7 @@
 -- What a range of dates says of a day: with a year, from 29 February to 29 February, and the others.
 -- Assumes nothing.
-use Rattle.std.specs.Prelude.{ℕ, ◌+◌, ◌-◌, Bool, false, cond, ◌&&◌, ◌||◌, List, [], ◌∷◌, eqb, leb, ltb, ℤ}
+use Rattle.std.specs.Prelude.{ℕ, ◌+◌, ◌-◌, Bool, false, cond, ◌&&◌, ◌||◌, List, [], ◌∷◌, Option, Some, None, eqb, leb, ℤ}
+use Rattle.std.specs.Option.{option_or, unwrap_or}
 use Rattle.calendar.specs.Calendar.{leap, day_number}
 use Rattle.calendar.specs.Moved.{moved}
 use Rattle.days.specs.declared.Day.{Day}
@@ -8,22 +9,22 @@ use Rattle.rules.specs.declared.Date.{Date}
 use Rattle.rules.specs.declared.Date.TheVariants.{Fixed, Weekday, Easter}
 use Rattle.rules.specs.declared.DateOffset.{DateOffset}
 use Rattle.intervals.specs.Intervals.{intervals, decides}
-use Rattle.date_bounds.specs.Bounds.{as_start, as_end, own_year, year_for, bound_on}
+use Rattle.date_bounds.specs.Bounds.{as_start, as_end, own_year, bound_on}
 
 -- start ≤ n ≤ end
 unfoldable pub inside : ℕ → ℕ → ℕ → Bool
 inside start end n = leb start n && leb n end
 
--- there is a start, and start ≤ end
-unfoldable pub proper : ℕ → ℕ → Bool
-proper start end = ltb 0 start && leb start end
+-- a pair that has a start at or before its end says of a day whether it contains it; any other says nothing
+unfoldable pub proper : Option ℕ → Option ℕ → ℕ → Option Bool
+proper (Some start) (Some end) n = cond (leb start end) (Some (inside start end n)) None
+proper (Some start) None n = None
+proper None end n = None
 
 -- of (start, end), (earlier start, end), (start, later end): the first with start ≤ end is the only interval
-unfoldable pub first_proper : ℕ → ℕ → ℕ → ℕ → ℕ → Bool
+unfoldable pub first_proper : Option ℕ → Option ℕ → Option ℕ → Option ℕ → ℕ → Bool
 first_proper start earlier end later n =
-    cond (proper start end) (inside start end n)
-    (cond (proper earlier end) (inside earlier end n)
-    (cond (proper start later) (inside start later n) false))
+    unwrap_or (option_or (proper start end n) (option_or (proper earlier end n) (proper start later n))) false
 
 -- dates with a year: try (Y, Y), (Y - 1, Y), (Y, Y + 1), own years winning
 unfoldable pub dated_match : DateOffset → DateOffset → ℕ → ℕ → Bool
@@ -53,7 +54,7 @@ leap_days_match a b y n =
     some (leap_day_in a b n) ((y - 4) ∷ (y - 3) ∷ (y - 2) ∷ (y - 1) ∷ y ∷ (y + 1) ∷ (y + 2) ∷ (y + 3) ∷ (y + 4) ∷ [])
 
 -- the years before, of and after
-unfoldable pub around : (ℕ → ℕ) → ℕ → List ℕ
+unfoldable pub around : (ℕ → Option ℕ) → ℕ → List (Option ℕ)
 around f y = f (y - 1) ∷ f y ∷ f (y + 1) ∷ []
 
 -- other dates: the starts and ends of these years, paired
@@ -67,12 +68,13 @@ undated_match start end y n =
     (leap_days_match start.offset end.offset y n)
     (other_match start end y n)
 
--- the year given: the start's, else the end's; 0 for none
-unfoldable pub given_year : DateOffset → DateOffset → ℕ
-given_year start end = year_for (own_year start.date) (own_year end.date)
+-- the year given: the start's, else the end's
+unfoldable pub given_year : DateOffset → DateOffset → Option ℕ
+given_year start end = option_or (own_year start.date) (own_year end.date)
+
+unfoldable pub match_in : Option ℕ → DateOffset → DateOffset → Day → Bool
+match_in (Some y) start end d = dated_match start end y d.number
+match_in None start end d = undated_match start end d.year d.number
 
 unfoldable pub dates_match : DateOffset → DateOffset → Day → Bool
-dates_match start end d =
-    cond (eqb (given_year start end) 0)
-    (undated_match start end d.year d.number)
-    (dated_match start end (given_year start end) d.number)
+dates_match start end d = match_in (given_year start end) start end d

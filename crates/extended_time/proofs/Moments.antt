@@ -8,13 +8,13 @@ use borrow.Author.Tests.{le-leb, leb-true}
 use lib.Dec.{leb}
 use lib.IntN.{ℤ, pos, negsuc, ◌+ℤ◌}
 use Rattle.extended_time.specs.Moments.{moment_of, signed_moment, clock_time, sum_of}
-use Rattle.extended_time.specs.declared.Moment.{Moment}
-use Rattle.extended_time.specs.declared.Moment.TheVariants.{At, Nothing}
+use Rattle.std.proofs.Common.{Some, None, Option}
+use Rattle.extended_time.specs.declared.ExtendedTime.{ExtendedTime}
 
 -- a moment lies at 48:00 or before
-abbrev pub InTime : Moment → Type 0
-InTime (At x) = x.minutes ≤ 2880
-InTime Nothing = Unit {0}
+abbrev pub InTime : Option ExtendedTime → Type 0
+InTime (Some x) = x.minutes ≤ 2880
+InTime None = Unit {0}
 
 -- every moment that the definitions give does
 pub in-time : (n : ℕ) → InTime (moment_of n)

@@ -1,16 +1,30 @@
--- The plain search gives what the rules' kept bounds and pairs give: no drop changes which interval decides.
+-- The search gives what the rules' kept bounds and pairs give: no drop changes which interval decides.
 -- Assumes nothing.
-use mathlib.Core.Path.{◌≡◌, refl, sym, ◌∙◌}
-use mathlib.Core.Bool.{Bool, true, false, cond}
+use mathlib.Core.Path.{◌≡◌, refl, sym, ap, ◌∙◌}
+use mathlib.Core.Bool.{Bool, true, false, cond, ◌&&◌, true≢false}
 use mathlib.Core.List.{List, [], ◌∷◌}
 use Prim.Native.Nat.{ℕ, ◌≤◌, ◌<◌}
 use native.Mathlib.Decide.{dec_lt, ℕ_discrete}
 use native.Mathlib.Omega.{arith}
 use borrow.Author.Tests.{le-leb, lt-leb, lt-ltb, le-ltb, eq-eqb, ne_eqb}
 use lib.Dec.{leb}
-use Rattle.intervals.specs.Intervals.{first_day, last_day, rising, drop_below, first_left, leave, Interval, pairs, ends_only, joined, intervals, decides}
-use Rattle.intervals.specs.Search.{first_from, end_for, plain}
-use Rattle.intervals.proofs.Walk.{skip, stop, go_on}
+use Rattle.std.proofs.Common.{Some, None}
+use Rattle.std.specs.List.{find}
+use Rattle.std.specs.Option.{is_some}
+use Rattle.intervals.specs.Intervals.{first_day, last_day, rising, kept, drop_below, first_left, leave, Interval, pairs, ends_only, joined, decides}
+use Rattle.intervals.specs.Search.{end_for, chosen, unstarted, searched}
+
+-- going through the starts, a step at a time
+walked : ℕ → List ℕ → List ℕ → Bool
+walked n ss es = chosen n (find (λ t. leb n (end_for t es)) ss)
+
+stop : (n s : ℕ) (ss es : List ℕ) → n ≤ end_for s es → walked n (s ∷ ss) es ≡ leb s n
+unfolding walked chosen
+stop n s ss es h = simp (le-leb n (end_for s es) h)
+
+go_on : (n s : ℕ) (ss es : List ℕ) → end_for s es < n → walked n (s ∷ ss) es ≡ walked n ss es
+unfolding walked
+go_on n s ss es h = simp (lt-leb n (end_for s es) h)
 
 -- the definitions, a case at a time
 rise : (last x : ℕ) (xs : List ℕ) → last < x → rising last (x ∷ xs) ≡ x ∷ rising x xs
@@ -38,14 +52,14 @@ unfolding least drop_below
 least-next s e es h = simp (lt-ltb e s h)
 
 -- it is the plain one
-end_is : (s : ℕ) (es : List ℕ) → 1 ≤ s → end_for s es ≡ least s es
-unfolding end_for first_from
-end_is s [] h = sym (least-none s)
-end_is s (e ∷ es) h = by_cases (end_is s es h) (dec_lt e s)
+end_is : (s : ℕ) (es : List ℕ) → end_for s es ≡ least s es
+unfolding end_for
+end_is s [] = sym (least-none s)
+end_is s (e ∷ es) = by_cases (end_is s es) (dec_lt e s)
   where
     by_cases : end_for s es ≡ least s es → Dec (e < s) → end_for s (e ∷ es) ≡ least s (e ∷ es)
     by_cases r (yes k) = rw (least-next s e es k) (simp (lt-leb s e k) r)
-    by_cases r (no k) = rw (least-here s e es (omega arith)) (simp (le-leb s e (omega arith), ne_eqb e 0 (omega arith)))
+    by_cases r (no k) = rw (least-here s e es (omega arith)) (simp (le-leb s e (omega arith)))
 
 -- what was dropped for one start is below a later one
 later : (s t : ℕ) → s < t → (es : List ℕ) → least t (leave s (drop_below s es)) ≡ least t es
@@ -59,10 +73,10 @@ later s t h (e ∷ es) = by_cases (later s t h es) (dec_lt e s) (ℕ_discrete e 
     by_cases r (no k) (yes d) = simp (le-ltb e s (omega arith), eq-eqb e s d) (sym (least-next t e es (omega arith)))
     by_cases r (no k) (no d) = simp (le-ltb e s (omega arith), ne_eqb e s d)
 
-kept : (s last : ℕ) → last < s → (es : List ℕ) → least s (rising last es) ≡ least s es
+risen : (s last : ℕ) → last < s → (es : List ℕ) → least s (rising last es) ≡ least s es
 unfolding rising
-kept s last h [] = refl
-kept s last h (e ∷ es) = by_cases (λ k. kept s e k es) (kept s last h es) (dec_lt last e) (dec_lt e s)
+risen s last h [] = refl
+risen s last h (e ∷ es) = by_cases (λ k. risen s e k es) (risen s last h es) (dec_lt last e) (dec_lt e s)
   where
     by_cases : (e < s → least s (rising e es) ≡ least s es) → least s (rising last es) ≡ least s es → Dec (last < e) → Dec (e < s) →
         least s (rising last (e ∷ es)) ≡ least s (e ∷ es)
@@ -113,69 +127,93 @@ serves_on : (last s : ℕ) (fs es : List ℕ) → last < s → Serves last fs es
 unfolding Serves
 serves_on last s fs es h v t k = later s t k fs ∙ v t (omega arith)
 
-nothing : (n last : ℕ) (fs es : List ℕ) → plain n true [] es ≡ decides n (pairs (rising last []) fs)
-unfolding plain decides pairs rising
+nothing : (n last : ℕ) (fs es : List ℕ) → walked n [] es ≡ decides n (pairs (rising last []) fs)
+unfolding walked chosen decides pairs rising
 nothing n last fs es = refl
 
-serves : (last : ℕ) (es : List ℕ) → Serves last (rising last es) es
-unfolding Serves
-serves last es t h = kept t last h es
+-- so do the kept ends from the first start on
+all-kept : (t : ℕ) (es : List ℕ) → least t (kept es) ≡ least t es
+unfolding kept
+all-kept t [] = refl
+all-kept t (e ∷ es) = by_cases (dec_lt e t)
+  where
+    by_cases : Dec (e < t) → least t (e ∷ rising e es) ≡ least t (e ∷ es)
+    by_cases (yes h) = rw (least-next t e (rising e es) h, least-next t e es h) (risen t e h es)
+    by_cases (no h) = rw (least-here t e (rising e es) (omega arith), least-here t e es (omega arith))
 
 module _ (n : ℕ) (i : n ≤ last_day) (es : List ℕ) where
-  -- one start above the last, with what the rest gives
-  turn : (some : Bool) (last s : ℕ) (ss fs : List ℕ) → last < s → Serves last fs es →
-      (least s es < n → plain n true ss es ≡ decides n (pairs (rising s ss) (leave s (drop_below s fs)))) →
-      plain n some (s ∷ ss) es ≡ decides n (pairs (s ∷ rising s ss) fs)
-  unfolding Serves
-  turn some last s ss fs h v r = rw (paired s (rising s ss) fs) (by_cases (dec_lt (least s es) n))
+  -- one start that is kept, with what the rest gives
+  turn : (s : ℕ) (ss fs : List ℕ) → least s fs ≡ least s es →
+      (least s es < n → walked n ss es ≡ decides n (pairs (rising s ss) (leave s (drop_below s fs)))) →
+      walked n (s ∷ ss) es ≡ decides n (pairs (s ∷ rising s ss) fs)
+  turn s ss fs v r = rw (paired s (rising s ss) fs) (by_cases (dec_lt (least s es) n))
     where
       rest : List Interval
       rest = pairs (rising s ss) (leave s (drop_below s fs))
 
-      by_cases : Dec (least s es < n) → plain n some (s ∷ ss) es ≡ decides n (pair s (least s fs) rest)
-      by_cases (yes k) =
-          go_on n some s ss es (omega arith) (omega (arith, end_is s es (omega arith))) ∙ r k ∙ sym (front-no n s (least s fs) rest (omega (arith, v s h)))
-      by_cases (no k) =
-          stop n some s ss es (omega arith) (omega (arith, end_is s es (omega arith))) ∙ sym (front-yes n s (least s fs) rest (omega (arith, v s h)))
+      by_cases : Dec (least s es < n) → walked n (s ∷ ss) es ≡ decides n (pair s (least s fs) rest)
+      by_cases (yes k) = go_on n s ss es (omega (arith, end_is s es)) ∙ r k ∙ sym (front-no n s (least s fs) rest (omega (arith, v)))
+      by_cases (no k) = stop n s ss es (omega (arith, end_is s es)) ∙ sym (front-yes n s (least s fs) rest (omega (arith, v)))
 
-  on : (ss : List ℕ) (last : ℕ) (fs : List ℕ) → Serves last fs es → least last es < n →
-      plain n true ss es ≡ decides n (pairs (rising last ss) fs)
+  on : (ss : List ℕ) (last : ℕ) (fs : List ℕ) → Serves last fs es → least last es < n → walked n ss es ≡ decides n (pairs (rising last ss) fs)
+  unfolding Serves
   on [] last fs v k = nothing n last fs es
-  on (s ∷ ss) last fs v k =
-      by_cases (λ h. on ss s (leave s (drop_below s fs)) (serves_on last s fs es h v)) (on ss last fs v k) (dec_lt last s) (ℕ_discrete s 0)
+  on (s ∷ ss) last fs v k = by_cases (λ h. on ss s (leave s (drop_below s fs)) (serves_on last s fs es h v)) (on ss last fs v k) (dec_lt last s)
     where
-      by_cases :
-          (last < s → least s es < n → plain n true ss es ≡ decides n (pairs (rising s ss) (leave s (drop_below s fs)))) →
-          plain n true ss es ≡ decides n (pairs (rising last ss) fs) →
+      by_cases : (last < s → least s es < n → walked n ss es ≡ decides n (pairs (rising s ss) (leave s (drop_below s fs)))) →
+          walked n ss es ≡ decides n (pairs (rising last ss) fs) →
           Dec (last < s) →
-          Dec (s ≡ 0) →
-          plain n true (s ∷ ss) es ≡ decides n (pairs (rising last (s ∷ ss)) fs)
-      by_cases q r (yes h) z = rw (rise last s ss h) (turn true last s ss fs h v (q h))
-      by_cases q r (no h) (yes z) = rw (pass last s ss (omega arith)) (skip n true s ss es z ∙ r)
-      by_cases q r (no h) (no z) =
-          rw (pass last s ss (omega arith))
-          (go_on n true s ss es z (omega (arith, end_is s es (omega arith), passed n s last i (omega arith) es k)) ∙ r)
+          walked n (s ∷ ss) es ≡ decides n (pairs (rising last (s ∷ ss)) fs)
+      by_cases q r (yes h) = rw (rise last s ss h) (turn s ss fs (v s h) (q h))
+      by_cases q r (no h) =
+          rw (pass last s ss (omega arith)) (go_on n s ss es (omega (arith, end_is s es, passed n s last i (omega arith) es k)) ∙ r)
 
-ends-only : (n : ℕ) → 1 ≤ n → (es : List ℕ) → cond (leb n (first_from 1 es)) (leb first_day n) false ≡ decides n (ends_only (rising 0 es))
-unfolding first_from rising ends_only decides
-ends-only n h [] = simp (lt-leb n 0 h)
-ends-only n h (e ∷ es) = by_cases (ends-only n h es) (dec_lt 0 e)
+ends-only : (n : ℕ) (es : List ℕ) → unstarted n es ≡ decides n (ends_only (kept es))
+unfolding unstarted ends_only kept decides
+ends-only n [] = refl
+ends-only n (e ∷ es) = go (leb n e) (leb first_day n)
   where
-    by_cases : cond (leb n (first_from 1 es)) (leb first_day n) false ≡ decides n (ends_only (rising 0 es)) → Dec (0 < e) →
-        cond (leb n (first_from 1 (e ∷ es))) (leb first_day n) false ≡ decides n (ends_only (rising 0 (e ∷ es)))
-    by_cases r (yes k) = simp (le-leb 1 e k, lt-ltb 0 e k)
-    by_cases r (no k) = simp (lt-leb 1 e (omega arith), le-ltb 0 e (omega arith)) r
-
-no-starts : (n : ℕ) (es : List ℕ) → plain n false [] es ≡ cond (leb n (first_from 1 es)) (leb first_day n) false
-unfolding plain
-no-starts n es = refl
+    go : (p q : Bool) → (q && p) ≡ cond p q false
+    go true true = refl
+    go true false = refl
+    go false true = refl
+    go false false = refl
 
 -- what the code computes is what the rules say
-pub same : (n : ℕ) → 1 ≤ n → n ≤ last_day → (ss es : List ℕ) → plain n false ss es ≡ decides n (intervals ss es)
-unfolding intervals joined rising
-same n h i [] es = no-starts n es ∙ ends-only n h es
-same n h i (s ∷ ss) es = by_cases (same n h i ss es) (dec_lt 0 s)
-  where
-    by_cases : plain n false ss es ≡ decides n (intervals ss es) → Dec (0 < s) → plain n false (s ∷ ss) es ≡ decides n (intervals (s ∷ ss) es)
-    by_cases r (yes k) = simp (lt-ltb 0 s k) (turn n i es false 0 s ss (rising 0 es) k (serves 0 es) (on n i es ss s (leave s (drop_below s (rising 0 es))) (serves_on 0 s (rising 0 es) es k (serves 0 es))))
-    by_cases r (no k) = simp (le-ltb 0 s (omega arith)) (skip n false s ss es (omega arith) ∙ r)
+pub same : (n : ℕ) → n ≤ last_day → (ss es : List ℕ) → searched n ss es ≡ decides n (joined (kept ss) (kept es))
+unfolding searched joined kept walked Serves
+same n h [] es = ends-only n es
+same n h (s ∷ ss) es =
+    turn n h es s ss (kept es) (all-kept s es)
+    (on n h es ss s (leave s (drop_below s (kept es))) (λ t k. later s t k (kept es) ∙ all-kept t es))
+
+-- what the search is, by the start that it found
+pub found-start : (n s : ℕ) (ss es : List ℕ) → find (λ t. leb n (end_for t es)) ss ≡ Some s → leb s n ≡ searched n ss es
+unfolding searched chosen
+found-start n s [] es e = absurd cc
+found-start n s (t ∷ ss) es e = rw e
+
+-- a list with a day in it has a first
+some-first : (t : ℕ) (ts : List ℕ) → find (λ x. leb 0 x) (t ∷ ts) ≡ Some t
+some-first t ts = simp (le-leb 0 t (omega arith))
+
+pub no-start : (n : ℕ) (ss es : List ℕ) → is_some (find (λ t. leb 0 t) ss) ≡ false → unstarted n es ≡ searched n ss es
+unfolding searched
+no-start n [] es h = refl
+no-start n (s ∷ ss) es h = absurd (true≢false (ap is_some (sym (some-first s ss)) ∙ h))
+
+pub all-passed : (n : ℕ) (ss es : List ℕ) → find (λ t. leb n (end_for t es)) ss ≡ None → is_some (find (λ t. leb 0 t) ss) ≡ true → false ≡ searched n ss es
+unfolding searched chosen
+all-passed n [] es e h = absurd (true≢false (sym h))
+all-passed n (s ∷ ss) es e h = rw e
+
+-- the first end, or none
+pub up_to : (n e : ℕ) (es : List ℕ) → find (λ t. leb 0 t) es ≡ Some e → unstarted n es ≡ (leb first_day n && leb n e)
+unfolding unstarted
+up_to n e [] h = absurd cc
+up_to n e (t ∷ es) h = let k : t ≡ e = cc (some-first t es) in ap (λ x. leb first_day n && leb n x) k
+
+pub up_to_none : (n : ℕ) (es : List ℕ) → find (λ t. leb 0 t) es ≡ None → unstarted n es ≡ false
+unfolding unstarted
+up_to_none n [] h = refl
+up_to_none n (t ∷ es) h = absurd (cc (some-first t es))

@@ -1,6 +1,8 @@
--- 'Other dates': the starts and ends of some years, as day numbers in the years' order, 0 where a year has none; and what they say of a day.
+-- 'Other dates': the starts and ends of some years, as day numbers in the years' order, where a year may have none; and what they say of a day.
 -- Assumes nothing.
-use Rattle.std.specs.Prelude.{ℕ, Bool, false, cond, List, [], ◌∷◌, eqb, leb, ltb}
+use Rattle.std.specs.Prelude.{ℕ, Bool, false, cond, List, [], ◌∷◌, Option, eqb, leb, ltb}
+use Rattle.std.specs.List.{flat_map}
+use Rattle.std.specs.Option.{option_to_list}
 
 -- 1900-01-01 and 10000-01-01
 abbrev pub first_day : ℕ
@@ -9,10 +11,19 @@ first_day = 693962
 abbrev pub last_day : ℕ
 last_day = 3652426
 
--- drop whatever is not above the last kept. (A missing day, 0, never is.)
+-- the days that there are
+abbrev pub days : List (Option ℕ) → List ℕ
+days xs = flat_map option_to_list xs
+
+-- drop whatever is not above the last kept
 unfoldable pub rising : ℕ → List ℕ → List ℕ
 rising last [] = []
 rising last (x ∷ xs) = cond (ltb last x) (x ∷ rising x xs) (rising last xs)
+
+-- the first is kept
+unfoldable pub kept : List ℕ → List ℕ
+kept [] = []
+kept (x ∷ xs) = x ∷ rising x xs
 
 -- drop the ends below a start
 unfoldable pub drop_below : ℕ → List ℕ → List ℕ
@@ -46,8 +57,8 @@ unfoldable pub joined : List ℕ → List ℕ → List Interval
 joined [] es = ends_only es
 joined (s ∷ ss) es = pairs (s ∷ ss) es
 
-unfoldable pub intervals : List ℕ → List ℕ → List Interval
-intervals ss es = joined (rising 0 ss) (rising 0 es)
+unfoldable pub intervals : List (Option ℕ) → List (Option ℕ) → List Interval
+intervals ss es = joined (kept (days ss)) (kept (days es))
 
 -- the first interval whose end is not before the day decides, by containing it
 unfoldable pub decides : ℕ → List Interval → Bool

@@ -1,17 +1,24 @@
 -- What the code computes, as definitions over the lists.
-use Rattle.std.specs.Prelude.{ℕ, Bool, true, false, cond, List, [], ◌∷◌, eqb, leb}
+use Rattle.std.specs.Prelude.{ℕ, Bool, false, ◌&&◌, List, [], ◌∷◌, Option, Some, None, leb}
+use Rattle.std.specs.List.{find}
+use Rattle.std.specs.Option.{unwrap_or}
 use Rattle.intervals.specs.Intervals.{first_day, last_day}
 
--- the first end that is not below s, or 0
-unfoldable pub first_from : ℕ → List ℕ → ℕ
-first_from s [] = 0
-first_from s (e ∷ es) = cond (leb s e) e (first_from s es)
-
--- the end that goes with a start
+-- the end that goes with a start: the first that is not below it, or 10000-01-01
 unfoldable pub end_for : ℕ → List ℕ → ℕ
-end_for s es = cond (eqb (first_from s es) 0) last_day (first_from s es)
+end_for s es = unwrap_or (find (λ e. leb s e) es) last_day
 
--- going through the starts; some says whether there has been one
-unfoldable pub plain : ℕ → Bool → List ℕ → List ℕ → Bool
-plain n some [] es = cond some false (cond (leb n (first_from 1 es)) (leb first_day n) false)
-plain n some (s ∷ ss) es = cond (eqb s 0) (plain n some ss es) (cond (leb n (end_for s es)) (leb s n) (plain n true ss es))
+-- what the start that decides says of a day
+unfoldable pub chosen : ℕ → Option ℕ → Bool
+chosen n None = false
+chosen n (Some s) = leb s n
+
+-- no starts: from 1900-01-01 to the first end
+unfoldable pub unstarted : ℕ → List ℕ → Bool
+unstarted n [] = false
+unstarted n (e ∷ es) = leb first_day n && leb n e
+
+-- the first start whose end is not before the day decides
+unfoldable pub searched : ℕ → List ℕ → List ℕ → Bool
+searched n [] es = unstarted n es
+searched n (s ∷ ss) es = chosen n (find (λ t. leb n (end_for t es)) (s ∷ ss))

@@ -1,54 +1,58 @@
-// Starts and ends of the years around a day, as day numbers, paired by number; 0 is no day.
+// Starts and ends of the years around a day, as day numbers, paired by number; a year may have none.
 #![tactic(auto)]
 
-ghost use Rattle.std.specs.Prelude.{◌≡◌, ◌≤◌, ◌<◌};
-ghost use Rattle.intervals.specs.Intervals.{last_day, intervals, decides};
-ghost use Rattle.intervals.specs.Search.{first_from};
+ghost use Rattle.std.specs.Prelude.{◌≡◌, ◌≤◌, leb};
+ghost use Rattle.std.specs.List.{find};
+ghost use Rattle.intervals.specs.Intervals.{last_day, days, intervals, decides};
+ghost use Rattle.intervals.specs.Search.{end_for, unstarted};
 
 const FIRST_DAY: u32 = 693962;
 
-// The first end that is not below s, or 0.
-pub fn first_from(s: u32, ends: &[u32]) -> u32
-    ensures { result ≡ first_from s ends.now }
+const LAST_DAY: u32 = 3652426;
+
+// The first end that is not below s.
+pub fn first_from(s: u32, ends: &[Option<u32>]) -> Option<u32>
+    ensures { result ≡ find (λ e. leb s e) (days ends.now) }
 {
-    let mut j = 0;
-    while j < ends.len() {
-        let e = ends[j];
-        if s <= e {
-            return e;
-        }
-        j += 1;
+    ends.iter().copied().flatten().find(|end| s <= *end)
+}
+
+#[tactic(auto, unfolding(crate::specs::Search::end_for))]
+fn end_for(start: u32, ends: &[Option<u32>]) -> u32
+    ensures { result ≡ end_for start (days ends.now) }
+{
+    first_from(start, ends).unwrap_or(LAST_DAY)
+}
+
+// The first start whose end is not before day n.
+fn deciding_start(n: u32, starts: &[Option<u32>], ends: &[Option<u32>]) -> Option<u32>
+    ensures { result ≡ find (λ s. leb n (end_for s (days ends.now))) (days starts.now) }
+{
+    starts
+        .iter()
+        .copied()
+        .flatten()
+        .find(|start| n <= end_for(*start, ends))
+}
+
+// Where there is no start: the days from 1900-01-01 to the first end.
+#[tactic(auto, using(crate::proofs::Same::up_to_none))]
+fn unstarted(n: u32, ends: &[Option<u32>]) -> bool
+    ensures { result ≡ unstarted n (days ends.now) }
+{
+    match first_from(0, ends) {
+        Some(end) => FIRST_DAY <= n && n <= end,
+        None => false,
     }
-    0
 }
 
 // Does day n lie in the interval that decides?
-pub fn within(n: u32, starts: &[u32], ends: &[u32]) -> bool
-    requires { (1 ≤ n) × (n ≤ last_day) }
+pub fn within(n: u32, starts: &[Option<u32>], ends: &[Option<u32>]) -> bool
+    requires { n ≤ last_day }
     ensures { result ≡ decides n (intervals starts.now ends.now) }
 {
-    let mut some = false;
-    let mut i = 0;
-    while i < starts.len() {
-        let s = starts[i];
-        if s != 0 {
-            let e = first_from(s, ends);
-            if e == 0 {
-                return s <= n;
-            }
-            if n <= e {
-                return s <= n;
-            }
-            some = true;
-        }
-        i += 1;
+    match deciding_start(n, starts, ends) {
+        Some(start) => start <= n,
+        None => first_from(0, starts).is_none() && unstarted(n, ends),
     }
-    if some {
-        return false;
-    }
-    let e = first_from(1, ends);
-    if n <= e {
-        return FIRST_DAY <= n;
-    }
-    false
 }

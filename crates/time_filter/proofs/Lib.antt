@@ -1,5 +1,5 @@
-pub mod Judging
 pub mod Rows
 pub mod Filling
+pub mod Judging
 pub mod Covers
 pub mod Examples

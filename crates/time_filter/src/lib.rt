@@ -1,13 +1,14 @@
 // Spans of time on a day, from its event times.
 #![tactic(auto)]
 
-ghost use Rattle.std.specs.Prelude.{◌≡◌, not, ◌≤◌, get_or};
-ghost use Rattle.time_filter.specs.Refusal.{refusal_of, event_time, event_refusal};
-ghost use Rattle.time_filter.specs.Spans.{times, event_at, time_at, before, summer, morning, not_after, start_missing, end_missing, both_missing, filled_span, later_end, wrapped_end, interval_of};
+ghost use Rattle.std.specs.Prelude.{◌≡◌, not, ◌≤◌, get_or, position};
+ghost use Rattle.time_filter.specs.Refusal.{event_time, event_refusal};
+ghost use Rattle.time_filter.specs.Spans.{times, event_at, time_at, before, summer, morning, not_after, start_missing, end_missing, both_missing, filled_span, later_end, interval_of};
 ghost use Rattle.time_filter.specs.Cuts.{in_day, cut_of, cuts_of};
 
 use days::Day;
-use extended_time::{ExtendedTime, Moment};
+use extended_time::ExtendedTime;
+use refusals::{Cause, Refusal};
 use rules::{Rule, Time, TimeSpan};
 
 // A day's event times: minutes 0 to 1439, or 65535 for none.
@@ -19,37 +20,29 @@ pub struct Events {
     pub dusk: u16,
 }
 
-#[derive(Clone, Copy)]
-pub enum EventCheck {
-    Accepted,
-    Refused(u8),
-}
-
+#[tactic(auto, unfolding(crate::specs::Refusal::event_time))]
 fn is_bad(time: u16) -> bool
     ensures { result ≡ not (event_time time) }
 {
-    if time <= 1439 {
-        return false;
-    }
-    time != 65535
+    1439 < time && time != 65535
 }
 
-pub fn check_events(row: Events) -> EventCheck
-    ensures { refusal_of result ≡ event_refusal row }
+fn lowest_bad(times: &[u16]) -> Option<usize>
+    ensures { result ≡ position (λ t. not (event_time t)) times.now }
 {
-    if is_bad(row.dawn) {
-        return EventCheck::Refused(0);
+    times.iter().position(|time| is_bad(*time))
+}
+
+pub fn check_events(row: Events) -> Result<(), Refusal>
+    ensures { result ≡ event_refusal row }
+{
+    match lowest_bad(&[row.dawn, row.sunrise, row.sunset, row.dusk]) {
+        Some(event) => Err(Refusal {
+            cause: Cause::BadEvent,
+            place: event,
+        }),
+        None => Ok(()),
     }
-    if is_bad(row.sunrise) {
-        return EventCheck::Refused(1);
-    }
-    if is_bad(row.sunset) {
-        return EventCheck::Refused(2);
-    }
-    if is_bad(row.dusk) {
-        return EventCheck::Refused(3);
-    }
-    EventCheck::Accepted
 }
 
 fn event_minutes(row: Events, event: u8) -> u16
@@ -64,188 +57,159 @@ fn event_minutes(row: Events, event: u8) -> u16
     }
 }
 
-fn event_time(row: Events, event: u8) -> Moment
+#[tactic(auto, unfolding(crate::specs::Spans::event_at))]
+fn event_time(row: Events, event: u8) -> Option<ExtendedTime>
     ensures { result ≡ event_at row event }
 {
     ExtendedTime::from_mins_from_midnight(event_minutes(row, event))
 }
 
-fn time_at(row: Events, time: Time) -> Moment
+#[tactic(auto, unfolding(crate::specs::Spans::time_at, crate::specs::Spans::after))]
+fn time_at(row: Events, time: Time) -> Option<ExtendedTime>
     ensures { result ≡ time_at row time }
 {
     match time {
         Time::Fixed(minutes) => ExtendedTime::from_mins_from_midnight(minutes),
-        Time::Variable { event, offset } => {
-            let moment = event_time(row, event);
-            match moment {
-                Moment::At(x) => x.add_minutes(offset),
-                Moment::Nothing => Moment::Nothing,
-            }
-        }
+        Time::Variable { event, offset } => event_time(row, event)?.add_minutes(offset),
     }
 }
 
+#[tactic(auto, unfolding(crate::specs::Spans::before))]
 fn is_before(day: Day, month: u32, date: u32) -> bool
     ensures { result ≡ before month date day }
 {
-    if day.month == month {
-        return day.day < date;
-    }
-    day.month < month
+    (day.month, day.day) < (month, date)
 }
 
+#[tactic(auto, unfolding(crate::specs::Spans::summer))]
 fn is_summer(day: Day) -> bool
     ensures { result ≡ summer day }
 {
-    if is_before(day, 3, 20) {
-        return false;
-    }
-    is_before(day, 9, 22)
+    !is_before(day, 3, 20) && is_before(day, 9, 22)
 }
 
+#[tactic(auto, unfolding(crate::specs::Spans::morning))]
 fn is_morning(time: Time) -> bool
     ensures { result ≡ morning time }
 {
     match time {
         Time::Fixed(_) => false,
-        Time::Variable { event, offset: _ } => event <= 1,
+        Time::Variable { event, .. } => event <= 1,
     }
 }
 
+#[tactic(auto, unfolding(crate::specs::Spans::not_after))]
 fn is_not_after(start: Time, end: Time) -> bool
     ensures { result ≡ not_after start end }
 {
-    match start {
-        Time::Fixed(_) => false,
-        Time::Variable {
-            event: e,
-            offset: y,
-        } => match end {
-            Time::Fixed(_) => false,
+    match (start, end) {
+        (
+            Time::Variable {
+                event: e,
+                offset: y,
+            },
             Time::Variable {
                 event: f,
                 offset: z,
-            } => { if e == f { y <= z } else { e < f } }
-        },
+            },
+        ) => (e, y) <= (f, z),
+        _ => false,
     }
 }
 
 // Minutes of the span's own day, from `start` up to, not including, `end`; the next day's go on from 1440.
 #[derive(Clone, Copy)]
-pub enum Interval {
-    FromTo { start: u16, end: u16 },
-    NoCover,
+pub struct Interval {
+    pub start: u16,
+    pub end: u16,
 }
 
-fn start_missing(summer: bool, start: Time, end: u16) -> Interval
+#[tactic(auto, unfolding(crate::specs::Spans::start_missing))]
+fn start_missing(summer: bool, start: Time, end: u16) -> Option<Interval>
     ensures { result ≡ start_missing summer start end }
 {
-    if is_morning(start) == summer {
-        return Interval::FromTo { start: 0, end };
-    }
-    Interval::NoCover
+    (is_morning(start) == summer).then_some(Interval { start: 0, end })
 }
 
-fn end_missing(summer: bool, end: Time, start: u16) -> Interval
+#[tactic(auto, unfolding(crate::specs::Spans::end_missing))]
+fn end_missing(summer: bool, end: Time, start: u16) -> Option<Interval>
     ensures { result ≡ end_missing summer end start }
 {
-    if is_morning(end) == summer {
-        return Interval::NoCover;
-    }
-    Interval::FromTo { start, end: 1440 }
+    (is_morning(end) != summer).then_some(Interval { start, end: 1440 })
 }
 
-fn both_missing(summer: bool, start: Time, end: Time) -> Interval
+#[tactic(auto, unfolding(crate::specs::Spans::both_missing))]
+fn both_missing(summer: bool, start: Time, end: Time) -> Option<Interval>
     ensures { result ≡ both_missing summer start end }
 {
-    if is_not_after(start, end) == summer {
-        return Interval::FromTo {
-            start: 0,
-            end: 1440,
-        };
-    }
-    Interval::NoCover
+    (is_not_after(start, end) == summer).then_some(Interval {
+        start: 0,
+        end: 1440,
+    })
 }
 
-fn filled(summer: bool, span: TimeSpan, first: Moment, last: Moment) -> Interval
+#[tactic(auto, unfolding(crate::specs::Spans::filled_span))]
+fn filled(
+    summer: bool,
+    span: TimeSpan,
+    first: Option<ExtendedTime>,
+    last: Option<ExtendedTime>,
+) -> Option<Interval>
     ensures { result ≡ filled_span summer span first last }
 {
-    let start = span.start;
-    let end = span.end;
-    match first {
-        Moment::At(x) => match last {
-            Moment::At(y) => {
-                let s = x.mins_from_midnight();
-                let e = y.mins_from_midnight();
-                Interval::FromTo { start: s, end: e }
-            }
-            Moment::Nothing => end_missing(summer, end, x.mins_from_midnight()),
-        },
-        Moment::Nothing => match last {
-            Moment::At(y) => start_missing(summer, start, y.mins_from_midnight()),
-            Moment::Nothing => both_missing(summer, start, end),
-        },
+    match (first, last) {
+        (Some(x), Some(y)) => Some(Interval {
+            start: x.mins_from_midnight(),
+            end: y.mins_from_midnight(),
+        }),
+        (Some(x), None) => end_missing(summer, span.end, x.mins_from_midnight()),
+        (None, Some(y)) => start_missing(summer, span.start, y.mins_from_midnight()),
+        (None, None) => both_missing(summer, span.start, span.end),
     }
 }
 
+#[tactic(auto, unfolding(crate::specs::Spans::later_end))]
 fn later_end(start: u16, end: u16) -> u16
     ensures { result ≡ later_end start end }
 {
     if start < end {
-        return end;
-    }
-    if end < 1440 {
-        return end + 1440;
-    }
-    2880
-}
-
-fn wrapped(interval: Interval) -> Interval
-    ensures { result ≡ wrapped_end interval }
-{
-    match interval {
-        Interval::FromTo { start, end } => {
-            let e = later_end(start, end);
-            Interval::FromTo { start, end: e }
-        }
-        Interval::NoCover => Interval::NoCover,
+        end
+    } else {
+        end.saturating_add(1440).min(2880)
     }
 }
 
 // A span on its own day, with that day's event times.
-pub fn as_naive(row: Events, day: Day, span: TimeSpan) -> Interval
+#[tactic(auto, unfolding(crate::specs::Spans::interval_of, crate::specs::Spans::wrapped_end))]
+pub fn as_naive(row: Events, day: Day, span: TimeSpan) -> Option<Interval>
     ensures { result ≡ interval_of row day span }
 {
-    let start = span.start;
-    let end = span.end;
-    let first = time_at(row, start);
-    let last = time_at(row, end);
-    wrapped(filled(is_summer(day), span, first, last))
+    let first = time_at(row, span.start);
+    let last = time_at(row, span.end);
+    let Interval { start, end } = filled(is_summer(day), span, first, last)?;
+    Some(Interval {
+        start,
+        end: later_end(start, end),
+    })
 }
 
+#[tactic(auto, unfolding(crate::specs::Cuts::in_day))]
 fn in_day(d: u16, t: u16) -> u16
     ensures { result ≡ in_day d t }
 {
-    if t < d {
-        return 0;
-    }
-    if t - d < 1440 {
-        return t - d;
-    }
-    1440
+    t.saturating_sub(d).min(1440)
 }
 
-fn cut(d: u16, interval: Interval) -> u32
+#[tactic(auto, unfolding(crate::specs::Cuts::cut_of))]
+fn cut(d: u16, interval: Option<Interval>) -> u32
     ensures { result ≡ cut_of d interval }
 {
-    match interval {
-        Interval::FromTo { start, end } => {
-            let s = in_day(d, start);
-            let e = in_day(d, end);
-            (s as u32) * 65536 + (e as u32)
-        }
-        Interval::NoCover => 0,
-    }
+    let Some(interval) = interval else {
+        return 0;
+    };
+    let start = u32::from(in_day(d, interval.start));
+    let end = u32::from(in_day(d, interval.end));
+    start * 65536 + end
 }
 
 // What a rule's spans leave of a day: a word for each span, start in the upper half, end in the lower.
@@ -260,13 +224,10 @@ pub fn cut_spans(row: Events, day: Day, d: u16, rule: Rule) -> Cuts
     requires { rule.span_count ≤ 8 }
     ensures { result ≡ cuts_of row day d rule }
 {
-    let n = rule.span_count;
+    let count = rule.span_count;
     let mut words = [0; 8];
-    let mut i = 0;
-    while i < n {
-        let span = rule.spans[i];
-        words[i] = cut(d, as_naive(row, day, span));
-        i += 1;
+    for (i, span) in rule.spans[..count].iter().enumerate() {
+        words[i] = cut(d, as_naive(row, day, *span));
     }
-    Cuts { count: n, words }
+    Cuts { count, words }
 }

@@ -2,9 +2,12 @@
 use mathlib.Core.Path.{◌≡◌, ap, ◌∙◌}
 use Prim.Native.Nat.{◌≤◌}
 use native.Mathlib.Omega.{arith}
+use Rattle.std.proofs.lemmas.Int.{ints}
 use lib.IntN.{nat_abs}
+use mir.Syntax.{w32}
+use mir.Val.{to_z, of_z}
 use Rattle.calendar.specs.Moved.{moved}
-use Rattle.calendar.proofs.Offsets.{moved-high, widens, widened}
+use Rattle.calendar.proofs.Offsets.{moved-high}
 use Rattle.date_bounds.proofs.OnYear.{moved-low, forwards, backwards}
 use Rattle.date_bounds.proofs.nth_in.Goals as goal
 use Rattle.date_bounds.proofs.nth_in.Goals.{After-later-at, Start}
@@ -13,13 +16,12 @@ small : (c : Start) → nat_abs c.args.nth ≤ 366
 small c = omega (arith, c.requires.3)
 
 at : (c : After-later-at) → c.later-at.result ≡ moved 1000 c.args.nth
-at c = c.later-at.ensures ∙ ap (moved 1000) (widened c.args.nth (small c.before))
-
-pub overflow_cast-nth : goal.overflow_cast-nth
-overflow_cast-nth c = widens c.args.nth (small (goal.at.overflow_cast-nth c).Start)
+at c = c.later-at.ensures ∙ ap (moved 1000) (omega (arith, ints))
 
 pub later-at-requires : goal.later-at-requires
-later-at-requires c = (omega arith, omega arith, rw (widened c.args.nth (small (goal.at.later-at-requires c).Start)) (small (goal.at.later-at-requires c).Start))
+later-at-requires c =
+    let e : to_z w32 (of_z w32 c.from.result) ≡ c.args.nth = omega (arith, ints) in
+    (omega arith, omega arith, omega (arith, ap nat_abs e, c.requires.3))
 
 pub from_start-requires : goal.from_start-requires
 from_start-requires c =

@@ -1,45 +1,19 @@
-use mathlib.Core.Path.{◌≡◌, ◌∙◌}
-use native.Mathlib.Omega.{arith}
+-- An empty list asks for nothing, another for an item that matches.
+use mathlib.Core.Path.{◌∙◌}
 use borrow.Author.Rules.{rules}
-use lib.ListN.{length}
+use Rattle.std.proofs.lemmas.Iterator.{YieldsList-from_slice}
+use Rattle.std.proofs.lemmas.Iterator.Search.{any_from_yields_List}
 use Rattle.date_items.specs.Items.{week_matches}
 use Rattle.date_lists.specs.Lists.{weeks_match}
-use Rattle.date_lists.proofs.Loops.{length-mapped, no_items, looking, found, passed, ended, lists}
+use Rattle.date_lists.proofs.Loops.{none_listed, any_listed}
 use Rattle.date_lists.proofs.weeks_match.Goals as goal
 
-pub returns-then-count-eq0 : goal.returns-then-count-eq0
+pub returns-then-is_empty : goal.returns-then-is_empty
 unfolding weeks_match
-returns-then-count-eq0 c = no_items (λ x. week_matches x c.args.d) c.args.items c.args.count c.if-count-eq0.true
+returns-then-is_empty c = none_listed _ c.args.items.now c.is_empty.result c.if-is_empty.true c.is_empty.ensures
 
-pub loop-i-init : goal.loop-i-init
-loop-i-init c =
-    let z : length c.args.items ≡ 8 = search (rules, length-mapped) in
-    looking (λ x. week_matches x c.args.d) c.args.items c.args.count (omega (arith, z, c.requires.0))
-
-pub bounds-items-i : goal.bounds-items-i
-bounds-items-i c = omega (arith, c.loop-i.invariant.long, c.requires.0, c.loop-i-test.true)
-
-pub overflow_add-i : goal.overflow_add-i
-overflow_add-i c = omega (arith, c.requires.0, c.loop-i-test.true)
-
-pub week_matches-requires : goal.week_matches-requires
-week_matches-requires c = (c.requires.1.at c.loop-i.i _ c.loop-i-test.true).step
-
-pub returns-then-week_matches : goal.returns-then-week_matches
+pub returns-else-is_empty : goal.returns-else-is_empty
 unfolding weeks_match
-returns-then-week_matches c =
-    found (λ x. week_matches x c.args.d) c.args.items c.args.count c.loop-i.i c.loop-i.invariant _ c.loop-i-test.true c.week_matches.result c.week_matches.ensures c.if-week_matches.true
-    ∙ lists (λ x. week_matches x c.args.d) c.args.items c.args.count (omega (arith, c.if-count-eq0.false)) c.loop-i.invariant.long
-
-pub loop-i-smaller : goal.loop-i-smaller
-loop-i-smaller c = omega (arith, c.loop-i-test.true)
-
-pub loop-i-preserved : goal.loop-i-preserved
-loop-i-preserved c =
-    passed (λ x. week_matches x c.args.d) c.args.items c.args.count c.loop-i.i c.loop-i.invariant _ c.loop-i-test.true c.week_matches.result c.week_matches.ensures c.if-week_matches.false
-
-pub returns : goal.returns
-unfolding weeks_match
-returns c =
-    ended (λ x. week_matches x c.args.d) c.args.items c.args.count c.loop-i.i c.loop-i.invariant c.loop-i-test.false
-    ∙ lists (λ x. week_matches x c.args.d) c.args.items c.args.count (omega (arith, c.if-count-eq0.false)) c.loop-i.invariant.long
+returns-else-is_empty c =
+    any_from_yields_List (λ x. week_matches x c.args.d) _ _ _ c.any.ensures.ran (YieldsList-from_slice c.args.items.now cc) (λ x b q k. search rules)
+    ∙ any_listed _ c.args.items.now _ c.if-is_empty.false c.is_empty.ensures

@@ -1,24 +1,15 @@
--- `check_events` meets its contract: each return is the definition's at the first time that is bad, all before being good.
-use Rattle.time_filter.specs.Refusal.{lowest_bad}
-use Rattle.time_filter.proofs.Judging.{bad, good}
+-- `check_events` meets its contract: the lowest bad event is the one that the definition finds.
+use Rattle.std.proofs.Common.{◌∙◌, sym, ap, not}
+use Rattle.std.proofs.lemmas.Iterator.Adapters.{position_from-zero}
+use Rattle.time_filter.specs.Refusal.{event_time}
+use Rattle.time_filter.specs.Spans.{times}
+use Rattle.time_filter.proofs.Judging.{refusal_at, lowest}
 use Rattle.time_filter.proofs.check_events.Goals as goal
 
-pub returns-then-is_bad : goal.returns-then-is_bad
-unfolding lowest_bad
-returns-then-is_bad c = let w = c.args.row in rw (bad w.dawn c.is_bad.ensures c.if-is_bad.true)
+pub returns-in-Some : goal.returns-in-Some
+returns-in-Some c =
+    ap refusal_at (sym c.in-Some.is ∙ c.lowest_bad.ensures ∙ position_from-zero (λ t. not (event_time t)) (times c.args.row)) ∙ lowest 0 (times c.args.row)
 
-pub returns-then-is_bad-2 : goal.returns-then-is_bad-2
-unfolding lowest_bad
-returns-then-is_bad-2 c = let w = c.args.row in rw (good w.dawn c.is_bad.ensures c.if-is_bad.false, bad w.sunrise c.is_bad-2.ensures c.if-is_bad-2.true)
-
-pub returns-then-is_bad-3 : goal.returns-then-is_bad-3
-unfolding lowest_bad
-returns-then-is_bad-3 c = let w = c.args.row in rw (good w.dawn c.is_bad.ensures c.if-is_bad.false, good w.sunrise c.is_bad-2.ensures c.if-is_bad-2.false, bad w.sunset c.is_bad-3.ensures c.if-is_bad-3.true)
-
-pub returns-then-is_bad-4 : goal.returns-then-is_bad-4
-unfolding lowest_bad
-returns-then-is_bad-4 c = let w = c.args.row in rw (good w.dawn c.is_bad.ensures c.if-is_bad.false, good w.sunrise c.is_bad-2.ensures c.if-is_bad-2.false, good w.sunset c.is_bad-3.ensures c.if-is_bad-3.false, bad w.dusk c.is_bad-4.ensures c.if-is_bad-4.true)
-
-pub returns : goal.returns
-unfolding lowest_bad
-returns c = let w = c.args.row in rw (good w.dawn c.is_bad.ensures c.if-is_bad.false, good w.sunrise c.is_bad-2.ensures c.if-is_bad-2.false, good w.sunset c.is_bad-3.ensures c.if-is_bad-3.false, good w.dusk c.is_bad-4.ensures c.if-is_bad-4.false)
+pub returns-in-None : goal.returns-in-None
+returns-in-None c =
+    ap refusal_at (sym c.in-None.is ∙ c.lowest_bad.ensures ∙ position_from-zero (λ t. not (event_time t)) (times c.args.row)) ∙ lowest 0 (times c.args.row)
