@@ -2,17 +2,21 @@
 use mathlib.Core.Path.{◌≡◌, refl, sym, ◌∙◌}
 use mathlib.Core.Bool.{Bool, true, false}
 use mathlib.Core.List.{List, [], ◌∷◌}
-use Prim.Native.Nat.{ℕ, ◌+◌, ◌-◌, ◌≤◌, ◌<◌}
+use Prim.Native.Nat.{ℕ, ◌+◌, ◌-◌, ◌≤◌, ◌<◌, max}
 use native.Mathlib.Omega.{arith}
-use lib.ListN.{length, take, drop, get_or}
+use Rattle.std.specs.Prelude.{Some, None, ◌≢◌}
+use borrow.Author.Tests.{lt-ltb, le-ltb}
+use native.Mathlib.Numerals.{add-one}
+use lib.ListN.{length, drop, get_or, drop_of_length-le}
+use lib.Seq.{drop-cons}
 use Rattle.ranges.specs.Range.{Range, same}
 use Rattle.ranges.specs.States.{Shown, shows, state_at, lit, InOrder}
 use Rattle.ranges.specs.Words.{range_of, ranges}
-use Rattle.ranges.proofs.Lists.{peel, peeled}
+use Rattle.ranges.proofs.Cases.{split}
 use Rattle.ranges.proofs.Points.{on, off}
 use Rattle.ranges.proofs.Orders.{lower, in_end}
 use Rattle.ranges.proofs.Closing.{dark-before}
-use Rattle.changes.specs.Search.{alike, other}
+use Rattle.changes.specs.Search.{alike, other, today}
 use Rattle.changes.specs.Words.{Ordered, state_in}
 use Rattle.changes.proofs.Minutes.{skip, stop, none_left, other-same}
 
@@ -70,98 +74,93 @@ shut-is : (s : ℕ) → same (range_of 256) (range_of s) ≡ alike (shows 1 0) (
 unfolding range_of
 shut-is s = refl
 
-pub record Walks (xs : List ℕ) (n s from : ℕ) (shut : Bool) (t i : ℕ) : Type 0 where
-  pub long : n ≤ length xs
-  pub upto : i ≤ n
+-- what is left from the word at i on is that word's range and the rest
+peel : (xs : List ℕ) (i : ℕ) → i < length xs → drop i xs ≡ get_or xs i 0 ∷ drop (i + 1) xs
+peel xs i h = rw (add-one, drop-cons xs i 0)
+
+-- a minute before 24:00 is the answer, and 24:00 none
+is-today : (z m : ℕ) → m < 1440 → m ≡ z → Some m ≡ today z
+is-today z m h e = rw (← e, lt-ltb m 1440 h)
+
+is-none : (z : ℕ) → z ≡ 1440 → None ≡ today z
+is-none z e = rw (le-ltb z 1440 (omega arith))
+
+pub record Walks (xs : List ℕ) (s from : ℕ) (shut : Bool) (t i : ℕ) : Type 0 where
   pub day : t ≤ 1440
   pub closed : shut ≡ alike (shows 1 0) (state_in s)
-  pub order : InOrder 0 (ranges (drop i (take n xs))) 1440
-  pub same : first_on (ranges (take n xs)) (state_in s) from ≡ first_on (ranges (drop i (take n xs))) (state_in s) t
+  pub order : InOrder 0 (ranges (drop i xs)) 1440
+  pub same : first_on (ranges xs) (state_in s) from ≡ first_on (ranges (drop i xs)) (state_in s) t
 
 -- at the start all is left
-pub walk-begin : (xs : List ℕ) (n s from : ℕ) (shut : Bool) → Ordered xs n → from ≤ 1440 → shut ≡ same (range_of 256) (range_of s) → Walks xs n s from shut from 0
-walk-begin xs n s from shut o h e = record { long = o.long; upto = omega arith; day = h; closed = e ∙ shut-is s; order = o.order; same = refl }
+pub walk-begin : (xs : List ℕ) (s from : ℕ) (shut : Bool) → Ordered xs → from ≤ 1440 → shut ≡ same (range_of 256) (range_of s) → Walks xs s from shut from 0
+walk-begin xs s from shut o h e = record { day = h; closed = e ∙ shut-is s; order = o; same = refl }
 
-module _ (xs : List ℕ) (n s from : ℕ) (shut : Bool) (t i : ℕ) (st : Walks xs n s from shut t i) where
-  module _ (h : i < n) where
+module _ (xs : List ℕ) (s from : ℕ) (shut : Bool) (t i : ℕ) (st : Walks xs s from shut t i) where
+  module _ (h : i < length xs) where
     abbrev r : Range
     r = range_of (get_or xs i 0)
 
     abbrev rest : List Range
-    rest = ranges (drop (i + 1) (take n xs))
+    rest = ranges (drop (i + 1) xs)
 
-    -- what is left is the next range and the rest
     order-here : InOrder 0 (r ∷ rest) 1440
-    order-here = rw (peel xs n i 0 h st.long) at st.order
+    order-here = rw (peel xs i h) at st.order
 
-    same_here : first_on (ranges (take n xs)) (state_in s) from ≡ first_on (r ∷ rest) (state_in s) t
-    same_here = rw (peel xs n i 0 h st.long) at st.same
+    same_here : first_on (ranges xs) (state_in s) from ≡ first_on (r ∷ rest) (state_in s) t
+    same_here = rw (peel xs i h) at st.same
 
-    -- the rest is in order by itself
-    order-on : InOrder 0 rest 1440
-    order-on = lower r.end 0 1440 rest (omega arith) order-here.2
+    upto : r.end ≤ 1440
+    upto = in_end r.end 1440 rest order-here.2
 
-    -- the range lies within the day
-    pub record Lies : Type 0 where
-      pub whole : r.start < r.end
-      pub upper : r.end ≤ 1440
+    -- the hole before the range stops where s is not closed
+    pub hole-stop : t < r.start → shut ≡ false → Some t ≡ today (first_on (ranges xs) (state_in s) from)
+    hole-stop k q =
+        let z = upto in let o : r.start < r.end = order-here.1 in
+        is-today _ t (omega arith) (sym (same_here ∙ hole-stops r rest (state_in s) t order-here k (sym st.closed ∙ q)))
 
-    pub lies : Lies
-    lies = record { whole = order-here.1; upper = in_end r.end 1440 rest order-here.2 }
+    -- else it is passed
+    module _ (u : ℕ) (m : u ≡ max t r.start) (p : t < r.start → shut ≡ true) where
+      same_inside : first_on (ranges xs) (state_in s) from ≡ first_on (r ∷ rest) (state_in s) u
+      same_inside = split t r.start
+          (λ k. let e : u ≡ r.start = omega arith in same_here ∙ hole-passed r rest (state_in s) t order-here k (sym st.closed ∙ p k) ∙ rw e)
+          (λ k. let e : u ≡ t = omega arith in same_here ∙ rw e)
 
-    module _ (a : ℕ) (p : a ≡ r.start) where
-      module _ (k : t < a) where
-        -- one turn for each case: the hole is passed, or stops
-        pub walk-hole : shut ≡ true → Walks xs n s from shut a i
-        walk-hole q =
-            let z = lies in
-            record {
-              long = st.long;
-              upto = st.upto;
-              day = omega arith;
-              closed = st.closed;
-              order = st.order;
-              same = same_here ∙ hole-passed r rest (state_in s) t order-here (omega arith) (sym st.closed ∙ q) ∙ rw (p, peel xs n i 0 h st.long);
-            }
+      -- a range of another state stops
+      pub range-stop : u < r.end → same r (range_of s) ≡ false → Some u ≡ today (first_on (ranges xs) (state_in s) from)
+      range-stop k q =
+          let z = upto in
+          is-today _ u (omega arith) (sym (same_inside ∙ range-stops r rest (state_in s) u order-here (omega arith) k q))
 
-        pub walk-hole-stop : shut ≡ false → t ≡ first_on (ranges (take n xs)) (state_in s) from
-        walk-hole-stop q = sym (same_here ∙ hole-stops r rest (state_in s) t order-here (omega arith) (sym st.closed ∙ q))
+      -- and what is not behind the minute reached is passed
+      pub walk-on : (v : ℕ) → v ≡ max u r.end → (u < r.end → same r (range_of s) ≡ true) → Walks xs s from shut v (i + 1)
+      walk-on v n q =
+          let z = upto in
+          let o : r.start < r.end = order-here.1 in
+          let d = st.day in
+          record {
+            day = omega arith;
+            closed = st.closed;
+            order = lower r.end 0 1440 rest (omega arith) order-here.2;
+            same = split u r.end
+                (λ k. let e : v ≡ r.end = omega arith in same_inside ∙ range-passed r rest (state_in s) u order-here (omega arith) k (q k) ∙ rw e)
+                (λ k. let e : v ≡ u = omega arith in same_inside ∙ range-past r rest (state_in s) u order-here k ∙ rw e);
+          }
 
-      module _ (k : a ≤ t) (e : ℕ) (q : e ≡ r.end) where
-        -- the range lies before the minute reached, or is passed, or stops
-        pub walk-past : e ≤ t → Walks xs n s from shut t (i + 1)
-        walk-past j = record {
-          long = st.long;
-          upto = omega arith;
-          day = st.day;
-          closed = st.closed;
-          order = order-on;
-          same = same_here ∙ range-past r rest (state_in s) t order-here (omega arith);
-        }
-
-        module _ (j : t < e) (b : Bool) (w : b ≡ same r (range_of s)) where
-          pub walk-range : b ≡ true → Walks xs n s from shut e (i + 1)
-          walk-range v =
-              let z = lies in
-              record {
-                long = st.long;
-                upto = omega arith;
-                day = omega arith;
-                closed = st.closed;
-                order = order-on;
-                same = same_here ∙ range-passed r rest (state_in s) t order-here (omega arith) (omega arith) (sym w ∙ v) ∙ rw q;
-              }
-
-          pub walk-range-stop : b ≡ false → t ≡ first_on (ranges (take n xs)) (state_in s) from
-          walk-range-stop v = sym (same_here ∙ range-stops r rest (state_in s) t order-here (omega arith) (omega arith) (sym w ∙ v))
-
-  module _ (h : n ≤ i) where
+  module _ (h : length xs ≤ i) where
     -- with no range left, the rest of the day is a hole
-    same_end : first_on (ranges (take n xs)) (state_in s) from ≡ first_on [] (state_in s) t
-    same_end = rw (peeled xs n i h) at st.same
+    same_end : first_on (ranges xs) (state_in s) from ≡ first_on [] (state_in s) t
+    same_end = rw (drop_of_length-le xs {i = i} h) at st.same
 
-    pub walk_end : shut ≡ true → 1440 ≡ first_on (ranges (take n xs)) (state_in s) from
-    walk_end q = sym (same_end ∙ last-passed (state_in s) t st.day (sym st.closed ∙ q))
+    pub walk_end : shut ≡ true → None ≡ today (first_on (ranges xs) (state_in s) from)
+    walk_end q = is-none _ (same_end ∙ last-passed (state_in s) t st.day (sym st.closed ∙ q))
 
-    pub walk-end-stop : shut ≡ false → t ≡ first_on (ranges (take n xs)) (state_in s) from
-    walk-end-stop q = sym (same_end ∙ last-stops (state_in s) t (sym st.closed ∙ q))
+    -- at 24:00 there is no rest
+    pub walk-end-none : t ≡ 1440 → None ≡ today (first_on (ranges xs) (state_in s) from)
+    walk-end-none q =
+        let z : 1440 - t ≡ 0 = omega arith in
+        is-none _ (same_end ∙ rw (z, none_left (λ u. shows 1 0) (state_in s) t) q)
+
+    pub walk-end-stop : shut ≡ false → t ≢ 1440 → Some t ≡ today (first_on (ranges xs) (state_in s) from)
+    walk-end-stop q k =
+        let d = st.day in
+        is-today _ t (omega arith) (sym (same_end ∙ last-stops (state_in s) t (sym st.closed ∙ q)))

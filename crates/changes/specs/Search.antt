@@ -1,5 +1,5 @@
 -- The next change, over what each day tells.
-use Rattle.std.specs.Prelude.{Bool, true, false, cond, ℕ, zero, suc, ◌+◌, ◌-◌, eqb, ltb}
+use Rattle.std.specs.Prelude.{Bool, true, false, cond, Option, Some, None, ℕ, zero, suc, ◌+◌, ◌-◌, eqb, ltb}
 use Rattle.ranges.specs.Range.{both}
 use Rattle.ranges.specs.States.{Shown, dark, shows}
 
@@ -24,6 +24,10 @@ shown_at (tells f) t = f t
 unfoldable pub other : (ℕ → Shown) → Shown → ℕ → ℕ → ℕ
 other f s t zero = t
 other f s t (suc n) = cond (alike (f t) s) (other f s (t + 1) n) t
+
+-- a minute before 24:00, else none
+abbrev pub today : ℕ → Option ℕ
+today m = cond (ltb m 1440) (Some m) None
 
 -- what is found: a day that is refused, and the rule; a day, a minute and the days examined; nothing, and the days examined
 pub data Found : Type 0 where

@@ -4,7 +4,7 @@
 ghost use Rattle.std.specs.Prelude.{◌≡◌, ◌+◌, ◌-◌, ◌≤◌, ◌<◌};
 ghost use Rattle.days.specs.DayOf.{day_of};
 ghost use Rattle.changes.specs.Days.{asked, within};
-ghost use Rattle.changes.specs.Search.{other};
+ghost use Rattle.changes.specs.Search.{other, today};
 ghost use Rattle.changes.specs.Words.{Ordered, state_in, shown_in};
 
 use days::Day;
@@ -12,6 +12,7 @@ use days::Day;
 // 10000-01-01.
 const LAST_DAY: u32 = 3652426;
 
+#[tactic(auto, unfolding(crate::specs::Days::asked))]
 fn days_asked(days: u32) -> u32
     ensures { result ≡ asked days }
 {
@@ -19,48 +20,33 @@ fn days_asked(days: u32) -> u32
 }
 
 // The days asked for, as far as they lie before 10000-01-01.
+#[tactic(auto, unfolding(crate::specs::Days::within))]
 pub fn days_within(days: u32, n: u32) -> u32
     ensures { result ≡ within days n }
 {
-    if n < LAST_DAY {
-        let count = days_asked(days);
-        let left = LAST_DAY - n;
-        if count < left { count } else { left }
-    } else {
-        0
-    }
+    days_asked(days).min(LAST_DAY.saturating_sub(n))
 }
 
-// The first minute from `from` on at which the first n ranges don't show the state of s, a hole being closed; 1440 where there is none.
-pub fn first_other(words: &[u32], n: usize, s: u32, from: u32) -> u32
-    requires { Ordered words.now n × (from ≤ 1440) }
-    ensures { result ≡ other (λ u. shown_in words.now n u) (state_in s) from (1440 - from) }
+// The first minute from `from` on at which the ranges don't show the state of s, a hole being closed.
+pub fn first_other(words: &[u32], s: u32, from: u32) -> Option<u32>
+    requires { Ordered words.now × (from ≤ 1440) }
+    ensures { result ≡ today (other (λ u. shown_in words.now u) (state_in s) from (1440 - from)) }
 {
     let shut = ranges::alike(256, s);
     let mut t = from;
-    let mut i = 0;
-    while i < n {
-        let w = words[i];
-        let a = ranges::start(w);
-        if t < a {
-            if shut {
-                t = a;
-            } else {
-                return t;
-            }
-        } else {
-            let e = ranges::end(w);
-            i += 1;
-            if t < e {
-                if ranges::alike(w, s) {
-                    t = e;
-                } else {
-                    return t;
-                }
-            }
+    for &w in words {
+        let start = ranges::start(w);
+        if t < start && !shut {
+            return Some(t);
         }
+        let inside = t.max(start);
+        let end = ranges::end(w);
+        if inside < end && !ranges::alike(w, s) {
+            return Some(inside);
+        }
+        t = inside.max(end);
     }
-    if shut { 1440 } else { t }
+    if shut || t == 1440 { None } else { Some(t) }
 }
 
 // Tomorrow. In the first two years, where `back` does not serve, from the number.

@@ -1,76 +1,43 @@
 // The listing of a day, for any inputs: refused in the order rules (1 to 4), holidays (5), events (6), date (7), addition (8), output (9).
 #![tactic(auto)]
 
-ghost use Rattle.date_filter.specs.Filter.{images};
 ghost use Rattle.opening_hours.specs.Hours.{day_ranged};
 ghost use Rattle.day_listing.specs.Listed.{DayLists, Lists, Ready};
 
 use calendar::Date;
 use days::Day;
-use listing::Written;
+use images::Images;
+use refusals::Refusal;
 use rules::Sheet;
 use time_filter::Events;
 
 fn list_ranges(
-    public: &[u8],
-    public_unknown: &[u8],
-    school: &[u8],
-    school_unknown: &[u8],
+    h: &Images<'_>,
     row: Events,
     day: Day,
-    sheet: Sheet,
+    sheet: &Sheet,
     out: &mut [u32],
-) -> Written
-    requires { Ready (images public.now public_unknown.now school.now school_unknown.now) sheet day }
-    ensures { DayLists (day_ranged (images public.now public_unknown.now school.now school_unknown.now) row day.number sheet) out.old out.new result }
+) -> Result<usize, Refusal>
+    requires { Ready h.now sheet.now day }
+    ensures { DayLists (day_ranged h.now row day.number sheet.now) out.old out.new result }
 {
-    let mut room = [0u32; 192];
-    let e = opening_hours::schedule_at(
-        public,
-        public_unknown,
-        school,
-        school_unknown,
-        row,
-        day,
-        sheet,
-        &mut room,
-    );
-    if e.refusal == 0 {
-        return listing::write_in(&room, e.count, &mut *out);
-    }
-    listing::refuse(e.refusal, e.place as usize)
+    let mut room = [0; 192];
+    let count = opening_hours::schedule_at(h, row, day, sheet, &mut room)?;
+    listing::write_in(&room[..count], out)
 }
 
 // Writes the day's entries to the front of `out` and nothing behind them; a refusal writes nothing.
+#[tactic(auto, unfolding(crate::specs::Listed::answer_on, crate::specs::Listed::cells_on, dates::specs::Answers::day_answer))]
 pub fn list_day(
     rules: &[u8],
     row: Events,
-    public: &[u8],
-    public_unknown: &[u8],
-    school: &[u8],
-    school_unknown: &[u8],
+    h: &Images<'_>,
     date: Date,
     out: &mut [u32],
-) -> Written
-    ensures { Lists rules.now row (images public.now public_unknown.now school.now school_unknown.now) date out.old out.new result }
+) -> Result<usize, Refusal>
+    ensures { Lists rules.now row h.now date out.old out.new result }
 {
-    let read = inputs::read_inputs(rules, row, public, public_unknown, school, school_unknown);
-    if read.refusal == 0 {
-        if dates::exists(date) {
-            let day = days::day_on(date);
-            let sheet = read.sheet;
-            return list_ranges(
-                public,
-                public_unknown,
-                school,
-                school_unknown,
-                row,
-                day,
-                sheet,
-                &mut *out,
-            );
-        }
-        return listing::refuse(7, 0);
-    }
-    listing::refuse(read.refusal, read.place)
+    let sheet = inputs::read_inputs(rules, row, h)?;
+    let day = dates::day_at(date)?;
+    list_ranges(h, row, day, &sheet, out)
 }

@@ -1,5 +1,5 @@
--- Every refusal of a rule image has a number from 1 to 4, and a place within the longest image: reading on from a place goes no further than the
--- bits of what is read, and refuses by no other number.
+-- Every refusal of a rule image has a cause of 1 to 4, and a place within the longest image: reading on from a place goes no further than the
+-- bits of what is read, and refuses for no other cause.
 use mathlib.Core.Path.{◌≡◌, refl}
 use mathlib.Core.Bool.{Bool, true, false, cond}
 use mathlib.Core.List.{List}
@@ -12,11 +12,11 @@ use borrow.Author.Tests.{ltb-true, ltb-false}
 use Rattle.bits.proofs.ReadLaws.{too-high}
 use Rattle.bits.specs.Bits.{field_at}
 use Rattle.bits.specs.Signed.{signed_of}
-use Rattle.bits.specs.declared.Field.{Field}
-use Rattle.bits.specs.declared.Field.TheVariants.{Value, Past}
-use Rattle.bits.specs.declared.Place.{Place}
-use Rattle.bits.specs.declared.Place.TheVariants.{At, Refused}
-use Rattle.bits.specs.Place.{Read, judged, read_at, within, at_most, number_at, signed_at}
+use Rattle.std.specs.Prelude.{Option, Some, None}
+use Rattle.refusals.specs.declared.Cause.{Cause}
+use Rattle.refusals.specs.declared.Cause.TheVariants.{PastEnd, NoMeaning, PastLimits, NotEnded, BadHolidays, BadEvent, NoDate, TooManyRanges, NoRoom, BadSchedule}
+use Rattle.refusals.specs.Numbers as refusals
+use Rattle.bits.specs.Place.{Place, At, Refused, Read, judged, read_at, within, at_most, number_at, signed_at}
 use Rattle.rule_items.specs.Codes.{operator_at}
 use Rattle.rule_items.specs.Years.{year_at, week_at}
 use Rattle.rule_items.specs.Dates.{flagged_year, fixed_date, nth_date, easter_date, date_form, date_at, date_offset, months_form, year_months_form, dates_form, monthday_form, monthday_at}
@@ -29,11 +29,11 @@ use Rattle.rule_image.specs.Reading.{sheet_at, fill_count, fill_bits, ended, fil
 -- the bit of a place, refused or not
 abbrev pub spot : Place → ℕ
 spot (At a) = a
-spot (Refused n b) = b
+spot (Refused c b) = b
 
 abbrev pub Numbered : Place → Type 0
 Numbered (At a) = Unit {0}
-Numbered (Refused n b) = (1 ≤ n) × (n ≤ 4)
+Numbered (Refused c b) = (1 ≤ refusals.number c) × (refusals.number c ≤ 4)
 
 record Step (k : ℕ) (p q : Place) : Type 0 where
   pub near : spot q ≤ spot p + k
@@ -45,41 +45,54 @@ then x y = record { near = omega (arith, x.near, y.near); named = λ n. y.named 
 wide : {a b : ℕ} {p q : Place} → a ≤ b → Step a p q → Step b p q
 wide h x = record { near = omega (arith, x.near); named = x.named }
 
--- a field of w bits, refused by 1 or by the number given
-module _ {A : Type 0} (none : A) (right : ℕ → Bool) (means : ℕ → A) (ref w : ℕ) (s : List ℕ) (l : 1 ≤ ref) (h : ref ≤ 4) where
-  picked : (at v : ℕ) (b : Bool) → Step w (At at) (cond {A = Read A} b (record { item = means v; place = At (at + w) }) (record { item = none; place = Refused ref at })).place
+-- every cause has a number, and none the number 0
+some : (c : Cause) → 1 ≤ refusals.number c
+some PastEnd = omega arith
+some NoMeaning = omega arith
+some PastLimits = omega arith
+some NotEnded = omega arith
+some BadHolidays = omega arith
+some BadEvent = omega arith
+some NoDate = omega arith
+some TooManyRanges = omega arith
+some NoRoom = omega arith
+some BadSchedule = omega arith
+
+-- a field of w bits, refused where the image ends or for the cause given
+module _ {A : Type 0} (none : A) (right : ℕ → Bool) (means : ℕ → A) (cause : Cause) (w : ℕ) (s : List ℕ) (h : refusals.number cause ≤ 4) where
+  picked : (at v : ℕ) (b : Bool) → Step w (At at) (cond {A = Read A} b (record { item = means v; place = At (at + w) }) (record { item = none; place = Refused cause at })).place
   picked at v true = record { near = omega arith; named = λ _. tt }
-  picked at v false = record { near = omega arith; named = λ _. (l, h) }
+  picked at v false = record { near = omega arith; named = λ _. (some cause, h) }
 
-  of_field : (at : ℕ) (x : Field) → Step w (At at) (judged none right means ref w at x).place
+  of_field : (at : ℕ) (x : Option ℕ) → Step w (At at) (judged none right means cause w at x).place
   unfolding judged
-  of_field at (Value v) = picked at v (right v)
-  of_field at Past = record { near = omega arith; named = λ _. (omega arith, omega arith) }
+  of_field at (Some v) = picked at v (right v)
+  of_field at None = record { near = omega arith; named = λ _. (omega arith, omega arith) }
 
-  of-read : (p : Place) → Step w p (read_at none right means ref w s p).place
+  of-read : (p : Place) → Step w p (read_at none right means cause w s p).place
   unfolding read_at
   of-read (At at) = of_field at (field_at s at w)
-  of-read (Refused n b) = record { near = omega arith; named = λ k. k }
+  of-read (Refused c b) = record { near = omega arith; named = λ k. k }
 
 -- a reader takes at most k bits
 Takes : {A : Type 0} → ℕ → (Place → Read A) → Type 0
 Takes k f = (p : Place) → Step k p (f p).place
 
 module _ (s : List ℕ) where
-  number : (w lo hi ref : ℕ) → 1 ≤ ref → ref ≤ 4 → (p : Place) → Step w p (number_at s p w lo hi ref).place
+  number : (w lo hi : ℕ) (cause : Cause) → refusals.number cause ≤ 4 → (p : Place) → Step w p (number_at s p w lo hi cause).place
   unfolding number_at
-  number w lo hi ref l h p = of-read 0 (within lo hi) (λ (v : ℕ). v) ref w s l h p
+  number w lo hi cause h p = of-read 0 (within lo hi) (λ (v : ℕ). v) cause w s h p
 
-  by2 : (w lo hi : ℕ) (p : Place) → Step w p (number_at s p w lo hi 2).place
-  by2 w lo hi p = number w lo hi 2 (omega arith) (omega arith) p
+  by2 : (w lo hi : ℕ) (p : Place) → Step w p (number_at s p w lo hi NoMeaning).place
+  by2 w lo hi p = number w lo hi NoMeaning (omega arith) p
 
-  by3 : (w lo hi : ℕ) (p : Place) → Step w p (number_at s p w lo hi 3).place
-  by3 w lo hi p = number w lo hi 3 (omega arith) (omega arith) p
+  by3 : (w lo hi : ℕ) (p : Place) → Step w p (number_at s p w lo hi PastLimits).place
+  by3 w lo hi p = number w lo hi PastLimits (omega arith) p
 
   signed : (w limit : ℕ) (p : Place) → Step w p (signed_at s p w limit).place
   unfolding signed_at
   signed w limit p =
-      of-read (pos 0) (λ (v : ℕ). at_most limit (signed_of (2 ^ w) v)) (signed_of (2 ^ w)) 3 w s (omega arith) (omega arith) p
+      of-read (pos 0) (λ (v : ℕ). at_most limit (signed_of (2 ^ w) v)) (signed_of (2 ^ w)) PastLimits w s (omega arith) p
 
   year : Takes 42 (year_at s)
   unfolding Takes year_at
@@ -113,7 +126,7 @@ module _ (s : List ℕ) where
 
   date : Takes 28 (date_at s)
   unfolding Takes date_at
-  date p = then (by2 2 0 2 p) (date-form (number_at s p 2 0 2 2).item _)
+  date p = then (by2 2 0 2 p) (date-form (number_at s p 2 0 2 NoMeaning).item _)
 
   offset : (edition : ℕ) → Takes 38 (date_offset s edition)
   unfolding Takes date_offset
@@ -139,7 +152,7 @@ module _ (s : List ℕ) where
 
   monthday : (edition : ℕ) → Takes 78 (monthday_at s edition)
   unfolding Takes monthday_at
-  monthday edition p = then (by2 2 0 2 p) (monthday-form edition (number_at s p 2 0 2 2).item _)
+  monthday edition p = then (by2 2 0 2 p) (monthday-form edition (number_at s p 2 0 2 NoMeaning).item _)
 
   weekdays : Takes 26 (fixed_weekdays s)
   unfolding Takes fixed_weekdays
@@ -156,7 +169,7 @@ module _ (s : List ℕ) where
 
   weekday : Takes 27 (weekday_item_at s)
   unfolding Takes weekday_item_at
-  weekday p = then (by2 1 0 1 p) (weekday-form (number_at s p 1 0 1 2).item _)
+  weekday p = then (by2 1 0 1 p) (weekday-form (number_at s p 1 0 1 NoMeaning).item _)
 
   fixed-time : Takes 12 (fixed_time s)
   unfolding Takes fixed_time
@@ -173,7 +186,7 @@ module _ (s : List ℕ) where
 
   time : Takes 15 (time_at s)
   unfolding Takes time_at
-  time p = then (by2 1 0 1 p) (time-form (number_at s p 1 0 1 2).item _)
+  time p = then (by2 1 0 1 p) (time-form (number_at s p 1 0 1 NoMeaning).item _)
 
   span : Takes 30 (span_at s)
   unfolding Takes span_at
@@ -207,17 +220,17 @@ right-top lo hi v e = by (ltb hi v) refl
     by false q = ltb-false hi v q
 
 -- a number read is at most its limit, and 0 where it is refused
-module _ (lo hi ref w : ℕ) (s : List ℕ) where
-  low-pick : (at v : ℕ) (b : Bool) → within lo hi v ≡ b → (cond {A = Read ℕ} b (record { item = v; place = At (at + w) }) (record { item = 0; place = Refused ref at })).item ≤ hi
+module _ (lo hi : ℕ) (cause : Cause) (w : ℕ) (s : List ℕ) where
+  low-pick : (at v : ℕ) (b : Bool) → within lo hi v ≡ b → (cond {A = Read ℕ} b (record { item = v; place = At (at + w) }) (record { item = 0; place = Refused cause at })).item ≤ hi
   low-pick at v true e = right-top lo hi v e
   low-pick at v false e = omega arith
 
-  low_field : (at : ℕ) (x : Field) → (judged 0 (within lo hi) (λ (v : ℕ). v) ref w at x).item ≤ hi
+  low_field : (at : ℕ) (x : Option ℕ) → (judged 0 (within lo hi) (λ (v : ℕ). v) cause w at x).item ≤ hi
   unfolding judged
-  low_field at (Value v) = low-pick at v (within lo hi v) refl
-  low_field at Past = omega arith
+  low_field at (Some v) = low-pick at v (within lo hi v) refl
+  low_field at None = omega arith
 
-  low : (p : Place) → (number_at s p w lo hi ref).item ≤ hi
+  low : (p : Place) → (number_at s p w lo hi cause).item ≤ hi
   unfolding number_at read_at
   low (At at) = low_field at (field_at s at w)
   low (Refused n b) = omega arith
@@ -236,29 +249,29 @@ module _ (s : List ℕ) where
   rule edition p =
       then (head p)
       (then (counts _)
-      (then (upto 42 (year_at s) (year s) _ _ _ 8 (low 0 8 3 4 s _))
-      (then (upto 78 (monthday_at s edition) (monthday s edition) _ _ _ 8 (low 0 8 3 4 s _))
-      (then (upto 18 (week_at s) (week s) _ _ _ 8 (low 0 8 3 4 s _))
-      (then (upto 27 (weekday_item_at s) (weekday s) _ _ _ 8 (low 0 8 3 4 s _)) (upto 30 (span_at s) (span s) _ _ _ 8 (low 0 8 3 4 s _)))))))
+      (then (upto 42 (year_at s) (year s) _ _ _ 8 (low 0 8 PastLimits 4 s _))
+      (then (upto 78 (monthday_at s edition) (monthday s edition) _ _ _ 8 (low 0 8 PastLimits 4 s _))
+      (then (upto 18 (week_at s) (week s) _ _ _ 8 (low 0 8 PastLimits 4 s _))
+      (then (upto 27 (weekday_item_at s) (weekday s) _ _ _ 8 (low 0 8 PastLimits 4 s _)) (upto 30 (span_at s) (span s) _ _ _ 8 (low 0 8 PastLimits 4 s _)))))))
 
   sheet : Step 50960 (At 0) (sheet_at s).place
   unfolding sheet_at
   sheet =
       then (by2 s 4 1 1 (At 0))
       (then (by2 s 6 0 0 _)
-      (then (by3 s 6 0 32 _) (upto 1592 (rule_at s _) (rule _) _ _ _ 32 (low 0 32 3 6 s _))))
+      (then (by3 s 6 0 32 _) (upto 1592 (rule_at s _) (rule _) _ _ _ 32 (low 0 32 PastLimits 6 s _))))
 
   fill : (p : Place) (k : ℕ) → Step k p (fill_bits s p k)
   unfolding fill_bits
   fill p zero = record { near = omega arith; named = λ h. h }
-  fill p (suc k) = wide {a = k + 1} (omega arith) (then (fill p k) (number s 1 0 0 4 (omega arith) (omega arith) _))
+  fill p (suc k) = wide {a = k + 1} (omega arith) (then (fill p k) (number s 1 0 0 NotEnded (omega arith) _))
 
   stop : (p : Place) → Step 0 p (ended s p)
   unfolding ended
   stop (Refused n b) = record { near = omega arith; named = λ h. h }
   stop (At a) = by (ltb (a / 8) (length s))
     where
-      by : (b : Bool) → Step 0 (At a) (cond b (Refused 4 a) (At a))
+      by : (b : Bool) → Step 0 (At a) (cond b (Refused NotEnded a) (At a))
       by true = record { near = omega arith; named = λ _. (omega arith, omega arith) }
       by false = record { near = omega arith; named = λ _. tt }
 

@@ -1,8 +1,7 @@
-pub mod Asking
-pub mod Dated
 pub mod Given
 pub mod Shops
 pub mod Resting
 pub mod Walking
+pub mod Asking
 pub mod Starting
 pub mod Meaning

@@ -1,11 +1,13 @@
 -- What the answer of a day means: its listing is the day's runs by the minute reading, and it is refused exactly at the first rule whose addition is too long.
-use mathlib.Core.Path.{◌≡◌, refl, sym, ap, subst, ◌∙◌}
+use mathlib.Core.Path.{◌≡◌, refl, sym, subst, ◌∙◌}
 use mathlib.Core.Bool.{Bool, true, false, cond}
 use mathlib.Core.Option.{Option}
 use mathlib.Core.List.{List, [], map}
 use Prim.Native.Nat.{ℕ}
 use native.Mathlib.Omega.{arith}
-use lib.ListN.{take}
+use lib.ListN.{length, take}
+use Rattle.std.specs.Prelude.{Result, Ok, Err}
+use Rattle.refusals.specs.declared.Refusal.{Refusal}
 use Rattle.rules.specs.declared.Rule.{Rule}
 use Rattle.rules.specs.declared.Sheet.{Sheet}
 use Rattle.rule_image.specs.Limits.{SheetOk}
@@ -28,7 +30,6 @@ use Rattle.rule_day.specs.Parts.{ruled_on, spanned_on}
 use Rattle.rule_day.proofs.Bridges.{sheet-rules}
 use Rattle.rule_day.proofs.Agreeing.{all-clipped, all_small, all_kinds, rules-of}
 use Rattle.opening_hours.proofs.Firsts.{FirstLong, all_fit, long-refused}
-use Rattle.opening_hours.specs.declared.Evaluated.{Evaluated}
 use Rattle.opening_hours.specs.Rooms.{Answered}
 use Rattle.opening_hours.specs.Hours.{can_show, rules_in, rules_on, spanneds_on, day_ranged, Runs}
 
@@ -42,19 +43,19 @@ module _ (h : Holidays) (e : Events) (n : ℕ) where
   rules-if true rs = rules-of h e n rs
   rules-if false rs = refl
 
--- an answer with refusal 0 is an evaluation's, and one with 8 a rule's
-record Accepted (x : Ranged) (xs : List ℕ) (r : Evaluated) : Type 0 where
+-- an accepted answer is an evaluation's, and a refusal a rule's
+record Accepted (x : Ranged) (xs : List ℕ) (n : ℕ) : Type 0 where
   value : Option (List Range)
   is : x ≡ gives value
-  list : ranges (take r.count xs) ≡ day_r value
+  list : ranges (take n xs) ≡ day_r value
 
-accepted : (x : Ranged) (xs : List ℕ) (r : Evaluated) → Answered x xs r → r.refusal ≡ 0 → Accepted x xs r
-accepted (over64 k) xs r a z = let q = ap (λ (y : Evaluated). y.refusal) a.answer in absurd (omega arith)
-accepted (gives v) xs r a z = record { value = v; is = refl; list = a.list }
+accepted : (x : Ranged) (xs : List ℕ) (n : ℕ) → Answered x xs (Ok n) → Accepted x xs n
+accepted (over64 k) xs n a = let q = a.answer in absurd (let z : ◌≡◌ {A = ℕ} 0 1 = cc in omega arith)
+accepted (gives v) xs n a = let q : n ≡ length (day_r v) = cc (a.answer) in record { value = v; is = refl; list = rw q a.list }
 
-refused : (x : Ranged) (xs : List ℕ) (r : Evaluated) → Answered x xs r → r.refusal ≡ 8 → x ≡ over64 r.place
-refused (over64 k) xs r a z = ap over64 (sym (ap (λ (y : Evaluated). y.place) a.answer))
-refused (gives v) xs r a z = let q = ap (λ (y : Evaluated). y.refusal) a.answer in absurd (omega arith)
+refused : (x : Ranged) (xs : List ℕ) (f : Refusal) → Answered x xs (Err f) → x ≡ over64 f.place
+refused (over64 k) xs f a = let q = a.answer in cc
+refused (gives v) xs f a = let q = a.answer in cc
 
 module _ (h : Holidays) (e : Events) (n : ℕ) (s : Sheet) (ok : SheetOk s) where
   clipped-on : Every Clipped (spanneds_on h e n s)
@@ -93,14 +94,14 @@ module _ (h : Holidays) (e : Events) (n : ℕ) (s : Sheet) (ok : SheetOk s) wher
   pub refused-first : (k : ℕ) → day_ranged h e n s ≡ over64 k → FirstLong 0 (spanneds_on h e n s) start k
   refused-first k z = let a = refused-at (spanneds_on h e n s) k clipped-on small-on z in record { at = a; fits = all_fit 0 (spanneds_on h e n s) start k a z }
 
-  module _ (xs : List ℕ) (r : Evaluated) (a : Answered (day_ranged h e n s) xs r) where
+  module _ (xs : List ℕ) (r : Result ℕ Refusal) (a : Answered (day_ranged h e n s) xs r) where
     -- THEOREM: the listing of the words that an accepted day leaves in the room is the day's runs
-    pub words-run : r.refusal ≡ 0 → Runs (day_at (rules_on h e n s)) (listing (ranges (take r.count xs)))
-    words-run z = let w = accepted (day_ranged h e n s) xs r a z in rw w.list (day-runs w.value w.is)
+    pub words-run : (m : ℕ) → r ≡ Ok m → Runs (day_at (rules_on h e n s)) (listing (ranges (take m xs)))
+    words-run m z = let w = accepted (day_ranged h e n s) xs m (rw z at a) in rw w.list (day-runs w.value w.is)
 
     -- THEOREM: a refused day's place is the first rule whose addition is too long
-    pub place-first : r.refusal ≡ 8 → FirstLong 0 (spanneds_on h e n s) start r.place
-    place-first z = refused-first r.place (refused (day_ranged h e n s) xs r a z)
+    pub place-first : (f : Refusal) → r ≡ Err f → FirstLong 0 (spanneds_on h e n s) start f.place
+    place-first f z = refused-first f.place (refused (day_ranged h e n s) xs f (rw z at a))
 
 -- THEOREM: and such a rule is refused
 pub first-refused : (h : Holidays) (e : Events) (n : ℕ) (s : Sheet) (k : ℕ) → FirstLong 0 (spanneds_on h e n s) start k → day_ranged h e n s ≡ over64 k

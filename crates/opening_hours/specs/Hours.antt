@@ -1,5 +1,8 @@
 -- The hours of a day, from the rules of a sheet, the four holiday images and the day's events.
-use Rattle.std.specs.Prelude.{◌≡◌, Bool, cond, ◌&&◌, List, [], map, ℕ, ◌<◌, leb, ltb, length, take}
+use Rattle.std.specs.Prelude.{◌≡◌, Bool, cond, ◌&&◌, List, [], map, ℕ, ◌<◌, Result, Ok, leb, ltb, length, take}
+use Rattle.refusals.specs.Numbers.{refused}
+use Rattle.refusals.specs.declared.Cause.TheVariants.{TooManyRanges}
+use Rattle.refusals.specs.declared.Refusal.{Refusal}
 use Rattle.rules.specs.declared.Rule.{Rule}
 use Rattle.rules.specs.declared.Sheet.{Sheet}
 use Rattle.intervals.specs.Intervals.{first_day, last_day}
@@ -11,7 +14,6 @@ use Rattle.listing.specs.Listing.{Tiles, Differ}
 use Rattle.reading.specs.Ruled.{Ruled}
 use Rattle.reading.specs.Ranging.{Spanned, Ranged, over64, gives, range_reading, day_r}
 use Rattle.rule_day.specs.Parts.{ruled_on, spanned_on}
-use Rattle.opening_hours.specs.declared.Evaluated.{Evaluated}
 
 -- a day that can show something: from 1900-01-01 up to, not including, 10000-01-01
 abbrev pub can_show : ℕ → Bool
@@ -32,10 +34,10 @@ spanneds_on h e n s = cond (can_show n) (map (spanned_on h e n) (rules_in s)) []
 abbrev pub day_ranged : Holidays → Events → ℕ → Sheet → Ranged
 day_ranged h e n s = range_reading (spanneds_on h e n s)
 
--- in numbers: 8 and the rule, or 0 and how many ranges the day's list has
-abbrev pub answer_of : Ranged → Evaluated
-answer_of (over64 k) = record { refusal = 8; place = k; count = 0 }
-answer_of (gives e) = record { refusal = 0; place = 0; count = length (day_r e) }
+-- refused with the rule's number, or how many ranges the day's list has
+abbrev pub answer_of : Ranged → Result ℕ Refusal
+answer_of (over64 k) = refused TooManyRanges k
+answer_of (gives e) = Ok (length (day_r e))
 
 -- the day's list; where it is refused there is none
 abbrev pub list_of : Ranged → List Range

@@ -1,11 +1,13 @@
 -- What the reader of images ensures of a rule is all that the date filter asks.
-use mathlib.Core.Path.{◌≡◌, refl, subst}
+use mathlib.Core.Path.{refl, subst}
 use mathlib.Core.List.{List, [], ◌∷◌}
 use Prim.Native.Nat.{ℕ, zero, suc, ◌≤◌, ◌<◌}
 use native.Mathlib.Omega.{arith}
 use lib.IntN.{ℤ, pos, negsuc, nat_abs}
-use lib.ListN.{length, take, get_or}
-use lib.Seq.{drop-cons}
+use lib.ListN.{length, take, get_or, length-take}
+use lib.Seq.{get_or-take}
+use Rattle.std.specs.Prelude.{All}
+use Rattle.std.proofs.lemmas.List.{get_or_default}
 use Rattle.bits.specs.Signed.{Below}
 use Rattle.rules.specs.declared.Date.{Date}
 use Rattle.rules.specs.declared.Date.TheVariants as date
@@ -22,15 +24,13 @@ use Rattle.date_lists.specs.Lists as lists
 use Rattle.date_filter.specs.Filter as filter
 use Rattle.reading.specs.Agreement.{Every}
 
--- inside a list the default is never asked
-any-default : {A : Type 0} (l : List A) (i : ℕ) (a b : A) → i < length l → get_or l i a ≡ get_or l i b
-any-default l i a b h = cc (drop-cons l i a h, drop-cons l i b h)
-
--- what holds of the counted items of an array, whatever the default
-each : {A : Type 0} (P Q : A → Type 0) (none : A) (n : ℕ) (l : List A) → n ≤ 8 → length l ≡ 8 → ((a : A) → P a → Q a)
-    → image.Counted P none n l → lists.Each Q n l
-each P Q none n l h k f c =
-    record { at = λ i a u. subst Q (any-default l i none a (omega arith)) (f (get_or l i none) (c.good i u)) }
+-- what each counted place keeps, the list of the counted keeps
+pub all-counted : {A : Type 0} (P Q : A → Type 0) (none : A) → ((a : A) → P a → Q a) → (n : ℕ) (l : List A) → image.Counted P none n l → All Q (take n l)
+all-counted P Q none f n l c = λ k d h.
+    let t = length-take n l in
+    let u : k < n = omega arith in
+    let v : k < length l = omega arith in
+    rw (get_or-take n l k d u) (subst Q (get_or_default l k none d v) (f (get_or l k none) (c.good k u)))
 
 -- a year that may be missing is 0 or in range
 year-ok : (y : ℕ) → image.MaybeYear y → bounds.YearOk y
@@ -62,20 +62,13 @@ weekday-ok : (w : WeekdayRange) → image.WeekdayFormOk w → filter.FormOk w
 weekday-ok (range.Fixed a b f g z) h = h.1.1.1.1
 weekday-ok (range.Holiday s z) h = h
 
--- the arrays of a rule have 8 places
-pub record Eights (r : Rule) : Type 0 where
-  pub years : length r.years ≡ 8
-  pub monthdays : length r.monthdays ≡ 8
-  pub weeks : length r.weeks ≡ 8
-  pub weekdays : length r.weekdays ≡ 8
-
 -- THEOREM: list by list and item by item, each limit of the filter is one of the image's
-pub filter-ok : (r : Rule) → image.RuleOk r → Eights r → filter.RuleOk r
-filter-ok r h k = record {
-  years = each image.YearOk lists.YearItemOk _ _ _ h.year_count k.years (λ a p. record { step = p.1.1.0 }) h.years;
-  monthdays = each image.MonthdayOk lists.MonthdayOk _ _ _ h.monthday_count k.monthdays (λ a p. record { form = monthday-ok a.form p }) h.monthdays;
-  weeks = each image.WeekOk lists.WeekItemOk _ _ _ h.week_count k.weeks (λ a p. record { step = p.1.1.0 }) h.weeks;
-  weekdays = each image.WeekdayOk filter.WeekdayOk _ _ _ h.weekday_count k.weekdays (λ a p. record { form = weekday-ok a.form p }) h.weekdays;
+pub filter-ok : (r : Rule) → image.RuleOk r → filter.RuleOk r
+filter-ok r h = record {
+  years = all-counted image.YearOk lists.YearItemOk _ (λ a p. record { step = p.1.1.0 }) _ _ h.years;
+  monthdays = all-counted image.MonthdayOk lists.MonthdayOk _ (λ a p. record { form = monthday-ok a.form p }) _ _ h.monthdays;
+  weeks = all-counted image.WeekOk lists.WeekItemOk _ (λ a p. record { step = p.1.1.0 }) _ _ h.weeks;
+  weekdays = all-counted image.WeekdayOk filter.WeekdayOk _ (λ a p. record { form = weekday-ok a.form p }) _ _ h.weekdays;
   counts = (h.year_count, h.monthday_count, h.week_count, h.weekday_count);
 }
 

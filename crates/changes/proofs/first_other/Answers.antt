@@ -1,36 +1,33 @@
-use native.Mathlib.Omega.{arith}
-use Rattle.changes.proofs.Walking.{walk-begin, lies, walk-hole, walk-hole-stop, walk-past, walk-range, walk-range-stop, walk_end, walk-end-stop}
+-- A turn stops in the hole before its range, stops in the range, or passes both.
+use mathlib.Core.Logic.{inl, inr}
+use Rattle.std.proofs.Common.{rules, arith, sym, ◌∙◌}
+use Rattle.changes.proofs.Walking.{walk-begin, hole-stop, range-stop, walk-on, walk_end, walk-end-none, walk-end-stop}
 use Rattle.changes.proofs.first_other.Goals as goal
+use Rattle.changes.proofs.first_other.Goals.{else-t-start-via-then-t-start+else-not-shut, else-t-start-via-else-t-start, else-inside-end-via-then-inside-end+else-not-alike, else-inside-end-via-else-inside-end}
 
-pub loop-i-init : goal.loop-i-init
-loop-i-init c = let P = c.requires in walk-begin _ _ _ _ _ P.0 P.1 c.alike-shut.ensures
+pub loop-w-init : goal.loop-w-init
+loop-w-init c = walk-begin _ _ _ _ c.requires.0 c.requires.1 c.alike-shut.ensures
 
-pub loop-i-smaller-then-shut : goal.loop-i-smaller-then-shut
-loop-i-smaller-then-shut c = let z = lies _ _ _ _ _ _ _ c.loop-i.invariant c.loop-i-test.true in omega (arith, c.start-a.ensures.0)
+pub returns-then-not-shut : goal.returns-then-not-shut
+returns-then-not-shut c = hole-stop _ _ _ _ _ _ c.loop-w.invariant c.loop-w-test.true (omega (arith, c.start-start.ensures.0)) (search rules)
 
-pub loop-i-preserved-then-shut : goal.loop-i-preserved-then-shut
-loop-i-preserved-then-shut c = walk-hole _ _ _ _ _ _ _ c.loop-i.invariant c.loop-i-test.true _ c.start-a.ensures.0 c.if-t-a.true c.if-shut.true
+pub returns-then-not-alike : goal.returns-then-not-alike
+returns-then-not-alike c =
+    range-stop _ _ _ _ _ _ c.loop-w.invariant c.loop-w-test.true _ (omega (arith, c.start-start.ensures.0, c.max-inside.ensures))
+    (λ k. elim c.else-t-start.branch [ else-t-start-via-then-t-start+else-not-shut w ↦ w.if-not-shut.false | else-t-start-via-else-t-start w ↦ absurd (omega (arith, c.start-start.ensures.0)) ])
+    (omega (arith, c.end-end.ensures.0))
+    (sym c.alike.ensures ∙ c.if-not-alike.true)
 
-pub returns-else-shut : goal.returns-else-shut
-returns-else-shut c = walk-hole-stop _ _ _ _ _ _ _ c.loop-i.invariant c.loop-i-test.true _ c.start-a.ensures.0 c.if-t-a.true c.if-shut.false
+pub loop-w-preserved : goal.loop-w-preserved
+loop-w-preserved c =
+    walk-on _ _ _ _ _ _ c.loop-w.invariant c.loop-w-test.true c.max-inside.result (omega (arith, c.start-start.ensures.0, c.max-inside.ensures))
+    (λ k. elim c.else-t-start.branch [ else-t-start-via-then-t-start+else-not-shut w ↦ w.if-not-shut.false | else-t-start-via-else-t-start w ↦ absurd (omega (arith, c.start-start.ensures.0)) ])
+    _ (omega (arith, c.end-end.ensures.0, c.max-t.ensures))
+    (λ k. elim c.else-inside-end.branch [ else-inside-end-via-then-inside-end+else-not-alike w ↦ sym w.alike.ensures ∙ w.if-not-alike.false | else-inside-end-via-else-inside-end w ↦ absurd (omega (arith, c.end-end.ensures.0)) ])
 
-pub loop-i-smaller-then-alike : goal.loop-i-smaller-then-alike
-loop-i-smaller-then-alike c = let z = lies _ _ _ _ _ _ _ c.loop-i.invariant c.loop-i-test.true in omega (arith, c.start-a.ensures.0, c.end-e.ensures.0)
+pub returns-then-t-eq1440 : goal.returns-then-t-eq1440
+returns-then-t-eq1440 c =
+    elim c.if-t-eq1440.either [ inl a ↦ walk_end _ _ _ _ _ _ c.loop-w.invariant c.loop-w-test.false a | inr b ↦ walk-end-none _ _ _ _ _ _ c.loop-w.invariant c.loop-w-test.false b.1 ]
 
-pub loop-i-preserved-then-alike : goal.loop-i-preserved-then-alike
-loop-i-preserved-then-alike c = walk-range _ _ _ _ _ _ _ c.loop-i.invariant c.loop-i-test.true _ c.start-a.ensures.0 c.if-t-a.false _ c.end-e.ensures.0 c.if-t-e.true _ c.alike.ensures c.if-alike.true
-
-pub returns-else-alike : goal.returns-else-alike
-returns-else-alike c = walk-range-stop _ _ _ _ _ _ _ c.loop-i.invariant c.loop-i-test.true _ c.start-a.ensures.0 c.if-t-a.false _ c.end-e.ensures.0 c.if-t-e.true _ c.alike.ensures c.if-alike.false
-
-pub loop-i-smaller : goal.loop-i-smaller
-loop-i-smaller c = omega arith
-
-pub loop-i-preserved : goal.loop-i-preserved
-loop-i-preserved c = walk-past _ _ _ _ _ _ _ c.loop-i.invariant c.loop-i-test.true _ c.start-a.ensures.0 c.if-t-a.false _ c.end-e.ensures.0 c.if-t-e.false
-
-pub returns-then-shut-2 : goal.returns-then-shut-2
-returns-then-shut-2 c = walk_end _ _ _ _ _ _ _ c.loop-i.invariant c.loop-i-test.false c.if-shut-2.true
-
-pub returns-else-shut-2 : goal.returns-else-shut-2
-returns-else-shut-2 c = walk-end-stop _ _ _ _ _ _ _ c.loop-i.invariant c.loop-i-test.false c.if-shut-2.false
+pub returns-else-t-eq1440 : goal.returns-else-t-eq1440
+returns-else-t-eq1440 c = walk-end-stop _ _ _ _ _ _ c.loop-w.invariant c.loop-w-test.false (search rules) (search rules)

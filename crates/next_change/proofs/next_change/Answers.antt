@@ -1,28 +1,28 @@
 -- The inputs' refusal comes first, then that of the question, then what the search finds.
-use Rattle.date_filter.specs.Filter.{Holidays, images}
-use Rattle.next_change.proofs.Starting.{inputs-refused, asked-refused, inputs-ready, asked-answered}
+use mathlib.Core.Path.{◌≡◌, sym, ◌∙◌}
+use mathlib.Core.Bool.{true}
+use borrow.Author.Rules.{rules}
+use Rattle.std.proofs.lemmas.Result.{err_from_is_err_and}
+use Rattle.inputs.proofs.Meaning.{sheet-ok, images-sound}
+use Rattle.next_change.specs.Answer.{can_ask}
+use Rattle.next_change.proofs.Starting.{date-fits, minute-fits, start-ready, start_is, inputs-refused, asked-answered}
 use Rattle.next_change.proofs.next_change.Goals as goal
-use Rattle.next_change.proofs.next_change.Goals.{Start}
 
-abbrev holidays : (c : Start) → Holidays
-holidays c = images c.args.public.now c.args.public_unknown.now c.args.school.now c.args.school_unknown.now
+pub returns-in_err-sheet : goal.returns-in_err-sheet
+returns-in_err-sheet c =
+    let p = err_from_is_err_and c.from_residual.result c.from_residual.ensures.1 in
+    rw (p.1, p.2) (inputs-refused _ _ _ _ _ _ _ c.in_err-sheet.ensures)
 
-pub returns-then-inputs-ne0 : goal.returns-then-inputs-ne0
-returns-then-inputs-ne0 c =
-    let A = c.args in
-    inputs-refused A.rules.now A.row (holidays (goal.at.returns-then-inputs-ne0 c).Start) A.date A.minute A.days c.read_inputs-inputs.result c.read_inputs-inputs.ensures c.if-inputs-ne0.true _ c.refused_with.ensures
+pub day_on-day-requires : goal.day_on-day-requires
+day_on-day-requires c = let a : can_ask c.args.date c.args.minute c.args.days ≡ true = sym c.can_ask.ensures ∙ search rules in date-fits _ _ _ a
 
-pub change_from-requires : goal.change_from-requires
-change_from-requires c =
-    let A = c.args in
-    inputs-ready A.rules.now A.row (holidays (goal.at.change_from-requires c).Start) A.date A.minute A.days c.read_inputs-inputs.result c.read_inputs-inputs.ensures c.if-inputs-ne0.false _ c.can_ask.ensures c.if-can_ask.true
-
-pub returns-then-can_ask : goal.returns-then-can_ask
-returns-then-can_ask c =
-    let A = c.args in
-    asked-answered A.rules.now A.row (holidays (goal.at.returns-then-can_ask c).Start) A.date A.minute A.days c.read_inputs-inputs.result c.read_inputs-inputs.ensures c.if-inputs-ne0.false _ c.can_ask.ensures c.if-can_ask.true _ c.change_from.ensures
+pub change_within-requires : goal.change_within-requires
+change_within-requires c =
+    let a : can_ask c.args.date c.args.minute c.args.days ≡ true = sym c.can_ask.ensures ∙ search rules in
+    let e = sym c.in_ok-sheet.ensures in
+    (start-ready _ _ _ a _ c.day_on-day.ensures _ c.days_within.ensures _ _ (images-sound _ _ _ _ e) (sheet-ok _ _ _ _ e), minute-fits _ _ _ a)
 
 pub returns : goal.returns
 returns c =
-    let A = c.args in
-    asked-refused A.rules.now A.row (holidays (goal.at.returns c).Start) A.date A.minute A.days c.read_inputs-inputs.result c.read_inputs-inputs.ensures c.if-inputs-ne0.false _ c.can_ask.ensures c.if-can_ask.false _ c.refused_with-2.ensures
+    let a : can_ask c.args.date c.args.minute c.args.days ≡ true = sym c.can_ask.ensures ∙ search rules in
+    c.change_within.ensures ∙ start_is _ _ _ a _ c.day_on-day.ensures _ c.days_within.ensures _ ∙ asked-answered _ _ _ _ _ _ _ c.in_ok-sheet.ensures a
