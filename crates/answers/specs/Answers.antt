@@ -1,13 +1,15 @@
 -- What the program writes for its input: the lines of the day's listing, a refusal, or that the input is badly framed.
-use Rattle.std.specs.Prelude.{◌≡◌, cond, List, ◌++◌, ℕ, ◌+◌, ◌≤◌, eqb, length, take, drop, replicate}
+use Rattle.std.specs.Prelude.{◌≡◌, Result, Ok, Err, List, ◌++◌, ℕ, ◌≤◌, length, take, drop, replicate}
+use Rattle.std.specs.Option.{option_map_or}
+use Rattle.refusals.specs.Numbers.{number}
+use Rattle.refusals.specs.declared.Refusal.{Refusal}
 use Rattle.calendar.specs.declared.Date.{Date}
 use Rattle.time_filter.specs.declared.Events.{Events}
-use Rattle.date_filter.specs.Filter.{Holidays, images}
+use Rattle.images.specs.Images.{Holidays, images}
 use Rattle.ranges.specs.Words.{ranges}
-use Rattle.listing.specs.declared.Written.{Written}
 use Rattle.day_listing.specs.Listed.{answer_on, cells_on}
 use Rattle.framing.specs.Framing.{Parts}
-use Rattle.framing.specs.Reading.{half_at, frame_of, parts_of}
+use Rattle.framing.specs.Reading.{parts_of}
 use Rattle.rendering.specs.Text.{lines_of, refusal_line, bad_input}
 
 abbrev pub events_of : Parts → Events
@@ -19,12 +21,13 @@ holidays_of p = images p.public p.public_unknown p.school p.school_unknown
 abbrev pub asked_date : Parts → Date
 asked_date p = record { year = p.year; month = p.month; day = p.day }
 
--- an answer's refusal, or the lines of its entries
-unfoldable pub answer_text : Written → List ℕ → List ℕ
-answer_text w words = cond (eqb w.refusal 0) (lines_of (ranges (take w.count words))) (refusal_line w.refusal w.place)
+-- the lines of an answer's entries, or its refusal
+abbrev pub answer_text : Result ℕ Refusal → List ℕ → List ℕ
+answer_text (Ok count) words = lines_of (ranges (take count words))
+answer_text (Err refusal) words = refusal_line (number refusal.cause) refusal.place
 
 -- the listing of the day asked for
-abbrev pub written_for : Parts → ℕ → Written
+abbrev pub written_for : Parts → ℕ → Result ℕ Refusal
 written_for p cells = answer_on p.rules (events_of p) (holidays_of p) (asked_date p) cells
 
 abbrev pub cells_for : Parts → List ℕ → List ℕ
@@ -36,16 +39,10 @@ day_text p = answer_text (written_for p 129) (cells_for p (replicate 129 0))
 
 -- THE PROGRAM'S TEXT for an input
 unfoldable pub text_of : List ℕ → List ℕ
-text_of s = cond (frame_of s).ok (day_text (parts_of s)) bad_input
-
-pub record EventsAt (s : List ℕ) (at : ℕ) (r : Events) : Type 0 where
-  pub is : r ≡ record { dawn = half_at s at; sunrise = half_at s (at + 2); sunset = half_at s (at + 4); dusk = half_at s (at + 6) }
-
-pub record DateAt (s : List ℕ) (at : ℕ) (r : Date) : Type 0 where
-  pub is : r ≡ record { year = half_at s at; month = half_at s (at + 2); day = half_at s (at + 4) }
+text_of s = option_map_or day_text (parts_of s) bad_input
 
 -- the answer r to the parts p, and o' in place of o
-pub record Listed (p : Parts) (o o' : List ℕ) (r : Written) : Type 0 where
+pub record Listed (p : Parts) (o o' : List ℕ) (r : Result ℕ Refusal) : Type 0 where
   pub answer : r ≡ written_for p (length o)
   pub cells : o' ≡ cells_for p o
 

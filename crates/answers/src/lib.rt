@@ -1,95 +1,97 @@
 // What the program writes for its input.
 #![tactic(auto)]
 
-ghost use Rattle.std.specs.Prelude.{◌+◌, ◌≤◌, length};
-ghost use Rattle.framing.specs.Reading.{parts_at, Within};
-ghost use Rattle.answers.specs.Answers.{answer_text, day_text, text_of, EventsAt, DateAt, Listed, Responds};
+ghost use Rattle.std.specs.Prelude.{◌≡◌, ◌≤◌, length, IfOk};
+ghost use Rattle.ranges.specs.Words.{ranges};
+ghost use Rattle.rendering.specs.Text.{lines_of, refusal_line, bad_input};
+ghost use Rattle.answers.specs.Answers.{events_of, asked_date, answer_text, text_of, Listed, Responds};
 
 use calendar::Date;
-use framing::Frame;
-use listing::Written;
+use framing::Question;
+use refusals::Refusal;
+use rendering::Writer;
 use time_filter::Events;
 
-// The four events at a place.
-pub fn events_at(input: &[u8], at: usize) -> Events
-    requires { at + 8 ≤ 65536 }
-    ensures { EventsAt input.now at result }
+pub fn events_of(asked: &Question<'_>) -> Events
+    ensures { result ≡ events_of asked.now }
 {
     Events {
-        dawn: framing::half_at(input, at),
-        sunrise: framing::half_at(input, at + 2),
-        sunset: framing::half_at(input, at + 4),
-        dusk: framing::half_at(input, at + 6),
+        dawn: asked.dawn,
+        sunrise: asked.sunrise,
+        sunset: asked.sunset,
+        dusk: asked.dusk,
     }
 }
 
-// The date at a place.
-pub fn date_at(input: &[u8], at: usize) -> Date
-    requires { at + 6 ≤ 65536 }
-    ensures { DateAt input.now at result }
+pub fn date_of(asked: &Question<'_>) -> Date
+    ensures { result ≡ asked_date asked.now }
 {
     Date {
-        year: framing::half_at(input, at) as u32,
-        month: framing::half_at(input, at + 2) as u32,
-        day: framing::half_at(input, at + 4) as u32,
+        year: u32::from(asked.year),
+        month: u32::from(asked.month),
+        day: u32::from(asked.day),
     }
 }
 
-// The listing that a framed input asks for.
-fn list_framed(input: &[u8], frame: Frame, room: &mut [u32]) -> Written
-    requires { Within frame (length input.now) }
-    ensures { Listed (parts_at input.now frame) room.old room.new result }
+// The listing that is asked for.
+fn listed(asked: &Question<'_>, room: &mut [u32]) -> Result<usize, Refusal>
+    ensures { Listed asked.now room.old room.new result }
 {
-    let events = frame.events;
-    let public = frame.public + 2;
-    let public_end = frame.public_unknown;
-    let public_unknown = public_end + 2;
-    let public_unknown_end = frame.school;
-    let school = public_unknown_end + 2;
-    let school_end = frame.school_unknown;
-    let school_unknown = school_end + 2;
-    let date = frame.date;
     day_listing::list_day(
-        &input[2..events],
-        events_at(input, events),
-        &input[public..public_end],
-        &input[public_unknown..public_unknown_end],
-        &input[school..school_end],
-        &input[school_unknown..date],
-        date_at(input, date),
-        &mut *room,
+        asked.rules,
+        events_of(asked),
+        &asked.images,
+        date_of(asked),
+        room,
     )
 }
 
-// The lines of the entries, or the refusal's.
-fn say(out: &mut [u8], w: Written, words: &[u32]) -> usize
-    requires { (4096 ≤ length out.old) × (length words.now ≤ 129) × (w.count ≤ length words.now) }
-    ensures { Responds out.old (answer_text w words.now) out.new result }
+fn say_lines(out: &mut [u8], words: &[u32]) -> usize
+    requires { (4096 ≤ length out.old) × (length words.now ≤ 129) }
+    ensures { Responds out.old (lines_of (ranges words.now)) out.new result }
 {
-    if w.refusal == 0 {
-        let n = w.count;
-        return rendering::put_lines(&mut *out, 0, &words[..n]);
-    }
-    rendering::put_refusal(&mut *out, 0, w.refusal, w.place)
+    let mut text = Writer::new(out);
+    text.put_lines(words);
+    text.at
 }
 
-// The text for a framed input.
-fn respond_framed(input: &[u8], frame: Frame, out: &mut [u8]) -> usize
-    requires { Within frame (length input.now) × (4096 ≤ length out.old) }
-    ensures { Responds out.old (day_text (parts_at input.now frame)) out.new result }
+fn say_refusal(out: &mut [u8], number: u8, place: usize) -> usize
+    requires { 4096 ≤ length out.old }
+    ensures { Responds out.old (refusal_line number place) out.new result }
 {
-    let mut room = [0u32; 129];
-    let w = list_framed(input, frame, &mut room);
-    say(&mut *out, w, &room)
+    let mut text = Writer::new(out);
+    text.put_refusal(number, place);
+    text.at
+}
+
+fn say_bad_input(out: &mut [u8]) -> usize
+    requires { 4096 ≤ length out.old }
+    ensures { Responds out.old bad_input out.new result }
+{
+    let mut text = Writer::new(out);
+    text.put_bad_input();
+    text.at
+}
+
+// The lines of the entries, or the refusal's.
+fn say(out: &mut [u8], answer: Result<usize, Refusal>, words: &[u32]) -> usize
+    requires { (4096 ≤ length out.old) × (length words.now ≤ 129) × IfOk answer (λ count. count ≤ length words.now) }
+    ensures { Responds out.old (answer_text answer words.now) out.new result }
+{
+    match answer {
+        Ok(count) => say_lines(out, &words[..count]),
+        Err(refusal) => say_refusal(out, refusal.cause.number(), refusal.place),
+    }
 }
 
 // Writes the text for an input to the front of `out` and answers its length.
 pub fn respond(input: &[u8], out: &mut [u8; 4096]) -> usize
     ensures { Responds out.old (text_of input.now) out.new result }
 {
-    let frame = framing::frame_of(input);
-    if frame.ok {
-        return respond_framed(input, frame, out);
-    }
-    rendering::put_bad_input(out, 0)
+    let Some(asked) = framing::question_of(input) else {
+        return say_bad_input(out);
+    };
+    let mut room = [0; 129];
+    let answer = listed(&asked, &mut room);
+    say(out, answer, &room)
 }

@@ -1,6 +1,6 @@
 -- The reading finds the parts of every input that has the form, and an input that it takes has the form.
 use mathlib.Core.Path.{◌≡◌, refl, ap, ◌∙◌}
-use mathlib.Core.Bool.{true}
+use mathlib.Core.Bool.{Bool, true, false}
 use mathlib.Core.List.{List, [], ◌++◌, append_assoc}
 use Prim.Native.Nat.{ℕ, ◌+◌, ◌≤◌}
 use native.Mathlib.Omega.{arith}
@@ -9,7 +9,9 @@ use lib.ListN.{length, drop, length-append}
 use lib.Seq.{drop-length}
 use Rattle.framing.specs.declared.Frame.{Frame}
 use Rattle.framing.specs.Framing.{Parts, half, sized, event_bytes, date_bytes, framed}
-use Rattle.framing.specs.Reading.{half_at, behind, frame_of, parts_at, parts_of, bytes_of}
+use Rattle.std.specs.Prelude.{Some}
+use Rattle.std.proofs.lemmas.Option.{none-some, same_Some}
+use Rattle.framing.specs.Reading.{half_at, behind, whole, places_of, frame_of, parts_at, parts_of, bytes_of}
 use Rattle.framing.proofs.Places.{within}
 use Rattle.framing.proofs.Fronts.{half-read, half-later, behind-read, bytes_read, Bytes, half-front, sized-front}
 
@@ -50,7 +52,6 @@ module _ (p : Parts) where
   abbrev frame_here : Frame
   frame_here =
       record {
-        ok = true;
         events = length to-events;
         public = length to-public;
         public_unknown = length to-public-unknown;
@@ -59,8 +60,8 @@ module _ (p : Parts) where
         date = length to-date;
       }
 
-pub in_place : (p : Parts) → length (framed p) ≤ 65536 → frame_of (framed p) ≡ frame_here p
-unfolding framed frame_of
+pub in_place : (p : Parts) → length (framed p) ≤ 65536 → frame_of (framed p) ≡ Some (frame_here p)
+unfolding framed frame_of places_of
 in_place p h =
     let s = framed p in
     let a = behind-read s [] p.rules _ 0 refl refl in
@@ -94,10 +95,9 @@ parts-here p =
     rw (rules, dawn, sunrise, sunset, dusk, public, unsure, school, last, year, month, day)
 
 -- EVERY INPUT OF THE FORM IS TAKEN, AND ITS PARTS ARE FOUND: each part stands behind those before it, where the lengths say.
-pub parts-found : (p : Parts) → length (framed p) ≤ 65536 → ((frame_of (framed p)).ok ≡ true) × (parts_of (framed p) ≡ p)
-parts-found p h =
-    let e = in_place p h in
-    (ap (λ (f : Frame). f.ok) e, ap (parts_at (framed p)) e ∙ parts-here p)
+pub parts-found : (p : Parts) → length (framed p) ≤ 65536 → parts_of (framed p) ≡ Some p
+unfolding parts_of
+parts-found p h = rw (in_place p h, parts-here p)
 
 -- What follows a number, or bytes, may be put in its written form.
 module _ (s : List ℕ) (b : Bytes s) where
@@ -107,12 +107,12 @@ module _ (s : List ℕ) (b : Bytes s) where
   bytes : (at to : ℕ) {rest : List ℕ} → to ≡ behind s at → to ≤ length s → drop to s ≡ rest → drop at s ≡ sized (bytes_of s at to) ++ rest
   bytes at to e h t = sized-front s b at to e h ∙ ap (λ (l : List ℕ). sized (bytes_of s at to) ++ l) t
 
--- WHAT IS TAKEN HAS THE FORM: each part is written as it was read, up to the end of the input.
-pub has-form : (s : List ℕ) → Bytes s → (frame_of s).ok ≡ true → s ≡ framed (parts_of s)
-unfolding framed frame_of parts_at
-has-form s b ok =
+-- The parts at a whole input's places, one behind the other, make it again.
+at-places : (s : List ℕ) → Bytes s → whole (length s) ((places_of s).date + 6) ≡ true → s ≡ framed (parts_at s (places_of s))
+unfolding framed places_of parts_at
+at-places s b ok =
     let w = within s ok in
-    let f = frame_of s in
+    let f = places_of s in
     let a = f.events in
     let d = f.date in
     let ends : drop (d + 6) s ≡ [] = rw w.date (drop-length s) in
@@ -128,3 +128,20 @@ has-form s b ok =
     (number s b d (d + 2) refl (omega arith)
     (number s b (d + 2) (d + 4) (omega arith) (omega arith)
     (number s b (d + 4) (d + 6) (omega arith) (omega arith) ends)))))))))))
+
+-- The parts are those at the places of a whole input.
+taken : (s : List ℕ) (p : Parts) → parts_of s ≡ Some p → (whole (length s) ((places_of s).date + 6) ≡ true) × (parts_at s (places_of s) ≡ p)
+unfolding parts_of frame_of
+taken s p e = by (whole (length s) ((places_of s).date + 6)) refl
+  where
+    by : (b : Bool) → whole (length s) ((places_of s).date + 6) ≡ b → (whole (length s) ((places_of s).date + 6) ≡ true) × (parts_at s (places_of s) ≡ p)
+    by true k = (k, same_Some _ _ (rw k at e))
+    by false k = absurd (none-some p (rw k at e))
+
+-- WHAT IS TAKEN HAS THE FORM: each part is written as it was read, up to the end of the input.
+pub has-form : (s : List ℕ) → Bytes s → (p : Parts) → parts_of s ≡ Some p → s ≡ framed p
+has-form s b p e = let t = taken s p e in at-places s b t.0 ∙ ap framed t.1
+
+-- AND AT MOST 65,536 BYTES.
+pub short : (s : List ℕ) (p : Parts) → parts_of s ≡ Some p → length s ≤ 65536
+short s p e = (within s (taken s p e).0).short

@@ -1,5 +1,5 @@
 -- How an input is read: its places follow from the lengths in it, bytes past its end being 0, and it is framed exactly when it is at most 65,536 bytes and ends where its parts do.
-use Rattle.std.specs.Prelude.{◌≡◌, ℕ, ◌+◌, ◌-◌, ◌*◌, ◌≤◌, ◌<◌, Bool, ◌&&◌, List, eqb, leb, length, get_or, take, drop}
+use Rattle.std.specs.Prelude.{cond, Option, Some, None, option_map, ◌≡◌, ℕ, ◌+◌, ◌-◌, ◌*◌, ◌≤◌, ◌<◌, Bool, ◌&&◌, List, eqb, leb, length, get_or, take, drop}
 use Rattle.framing.specs.Framing.{Parts}
 use Rattle.framing.specs.declared.Frame.{Frame}
 
@@ -14,8 +14,9 @@ behind s at = at + 2 + half_at s at
 abbrev pub whole : ℕ → ℕ → Bool
 whole len end = leb len 65536 && eqb end len
 
-unfoldable pub frame_of : List ℕ → Frame
-frame_of s =
+-- where the parts stand, one behind the other as the lengths say
+unfoldable pub places_of : List ℕ → Frame
+places_of s =
     let events = behind s 0 in
     let public = events + 8 in
     let public_unknown = behind s public in
@@ -23,7 +24,6 @@ frame_of s =
     let school_unknown = behind s school in
     let date = behind s school_unknown in
     record {
-      ok = whole (length s) (date + 6);
       events = events;
       public = public;
       public_unknown = public_unknown;
@@ -31,6 +31,10 @@ frame_of s =
       school_unknown = school_unknown;
       date = date;
     }
+
+-- the places of a framed input
+unfoldable pub frame_of : List ℕ → Option Frame
+frame_of s = let f = places_of s in cond (whole (length s) (f.date + 6)) (Some f) None
 
 -- the bytes between a part's length and the next part
 abbrev pub bytes_of : List ℕ → ℕ → ℕ → List ℕ
@@ -54,9 +58,9 @@ parts_at s f =
       day = half_at s (f.date + 4);
     }
 
--- the parts of an input
-abbrev pub parts_of : List ℕ → Parts
-parts_of s = parts_at s (frame_of s)
+-- the parts of a framed input
+unfoldable pub parts_of : List ℕ → Option Parts
+parts_of s = option_map (parts_at s) (frame_of s)
 
 -- r is the u16 there
 pub record Half (s : List ℕ) (at r : ℕ) : Type 0 where

@@ -4,8 +4,10 @@ use mathlib.Core.Bool.{Bool, true, false, cond}
 use mathlib.Core.List.{List, [], ◌∷◌, map}
 use Prim.Native.Nat.{ℕ, ◌+◌, ◌≤◌, ◌<◌}
 use native.Mathlib.Omega.{arith}
-use lib.Dec.{eqb, leb}
-use borrow.Author.Tests.{eqb-true}
+use Rattle.std.specs.Prelude.{Result, Ok, Err}
+use Rattle.refusals.specs.Numbers.{refused}
+use Rattle.refusals.specs.declared.Cause.TheVariants.{NoDate}
+use Rattle.refusals.specs.declared.Refusal.{Refusal}
 use lib.ListN.{length, length-take, length-map}
 use Rattle.calendar.specs.Calendar.{day_number}
 use Rattle.calendar.specs.declared.Date.{Date}
@@ -18,14 +20,11 @@ use Rattle.reading.specs.Operators.{Turn, start}
 use Rattle.reading.specs.Ranging.{Spanned, Ranged, over64, gives, turn_r, few_b, range_m, day_r}
 use Rattle.rule_day.specs.Parts.{spanned_on}
 use Rattle.opening_hours.specs.Hours.{can_show, rules_in, spanneds_on, day_ranged}
-use Rattle.listing.specs.Listing.{listing}
-use Rattle.listing.specs.Writing.{says}
-use Rattle.listing.specs.declared.Written.{Written}
 use Rattle.inputs.specs.Inputs.{inputs_of}
 use Rattle.inputs.proofs.Meaning.{sheet-ok, inputs-limits}
-use Rattle.day_listing.specs.Listed.{day_listed, date_ranged, answer_on}
+use Rattle.day_listing.specs.Listed.{day_listed, date_listed, answer_on}
 use Rattle.kumolendi.specs.Answers.{Small}
-use Rattle.listing.proofs.Tiling.{few-listing}
+use Rattle.kumolendi.proofs.SizeLaws.{list-small}
 use Rattle.opening_hours.proofs.Few.{day-few}
 
 -- a refused rule is one of the rules
@@ -49,22 +48,19 @@ module _ (h : Holidays) (row : Events) (n : ℕ) (s : Sheet) where
   day-small : s.count ≤ 32 → (cells : ℕ) → Small (day_listed (day_ranged h row n s) cells)
   day-small c cells = by (day_ranged h row n s) refl
     where
-      of-list : (l : List Range) → length l ≤ 64 → (q : Bool) → Small (cond q (says 0 0 (length (listing l))) (says 9 (length (listing l)) 0))
-      of-list l k true = record { count = omega (arith, few-listing l k); place = omega arith }
-      of-list l k false = record { count = omega arith; place = omega (arith, few-listing l k) }
-
       by : (x : Ranged) → day_ranged h row n s ≡ x → Small (day_listed x cells)
-      by (over64 k) e = record { count = omega arith; place = omega (arith, range-near 0 (spanneds_on h row n s) start k e, rules-few c) }
-      by (gives v) e = of-list (day_r v) (day-few h row n s v e) (leb (length (listing (day_r v))) cells)
+      by (over64 k) e = record { fits = omega (arith, range-near 0 (spanneds_on h row n s) start k e, rules-few c) }
+      by (gives v) e = list-small (day_r v) cells (day-few h row n s v e)
 
 -- the limits of the inputs where they are refused, else those of the day
-pub answer-small : (rules : List ℕ) (row : Events) (h : Holidays) (date : Date) (cells : ℕ) (w : Written) → w ≡ answer_on rules row h date cells → Small w
+pub answer-small : (rules : List ℕ) (row : Events) (h : Holidays) (date : Date) (cells : ℕ) → Small (answer_on rules row h date cells)
 unfolding answer_on
-answer-small rules row h date cells w e = rw e (by (eqb (inputs_of rules row h).refusal 0) refl (is_date date))
+answer-small rules row h date cells = by (inputs_of rules row h) refl
   where
-    by : (p : Bool) → eqb (inputs_of rules row h).refusal 0 ≡ p → (q : Bool)
-        → Small (cond p (cond q (day_listed (date_ranged rules row h date) cells) (says 7 0 0)) (says (inputs_of rules row h).refusal (inputs_of rules row h).place 0))
-    by true z true =
-        day-small h row (day_number date) (inputs_of rules row h).sheet (sheet-ok rules row h (eqb-true (inputs_of rules row h).refusal 0 z)).count cells
-    by true z false = record { count = omega arith; place = omega arith }
-    by false z q = record { count = omega arith; place = omega (arith, (inputs-limits rules row h).1) }
+    by : (i : Result Sheet Refusal) → inputs_of rules row h ≡ i → Small (date_listed i row h date cells)
+    by (Err f) e = record { fits = omega (arith, (inputs-limits rules row h f e).1) }
+    by (Ok sheet) e = dated (is_date date)
+      where
+        dated : (q : Bool) → Small (cond q (day_listed (day_ranged h row (day_number date) sheet) cells) (refused NoDate 0))
+        dated true = day-small h row (day_number date) sheet (sheet-ok rules row h sheet e).count cells
+        dated false = record { fits = omega arith }

@@ -1,4 +1,3 @@
-pub mod PackLaws
 pub mod SizeLaws
 pub mod DaySizes
 pub mod ChangeSizes

@@ -8,14 +8,13 @@ ghost use Rattle.schedule.specs.Schedules.{build_of, addition_of};
 ghost use Rattle.date_filter.specs.Filter.{images};
 ghost use Rattle.next_change.specs.Answer.{change_answer};
 ghost use Rattle.word_schedules.specs.Stored.{offered};
-ghost use Rattle.kumolendi.specs.Packed.{packed, date_number, packed_rules, packed_check, packed_count, packed_first, packed_written, handed_over};
-ghost use Rattle.kumolendi.specs.Answers.{Small, Stored, Listed, DayListed};
+ghost use Rattle.kumolendi.specs.Packed.{packed, date_number, packed_rules, packed_check, packed_count, packed_first, dated, handed_over};
+ghost use Rattle.kumolendi.specs.Answers.{Small, SmallChange, Stored, Listed, DayListed};
 
 use calendar::Date;
-use holidays::{Checked, Count, First};
-use listing::Written;
-use next_change::Change;
-use rule_image::Verdict;
+use images::Images;
+use next_change::{Change, Refused};
+use refusals::Refusal;
 use time_filter::Events;
 
 // The next change: a refusal's number and place, 8 with the refused day's date; or the date and minute of the change, year 0 where there is none, and the days examined.
@@ -31,21 +30,14 @@ pub struct KumolendiChange {
     pub examined: u32,
 }
 
-fn pack(refusal: u8, low: usize) -> u64
-    requires { low < 4294967296 }
-    ensures { result ≡ packed refusal low }
+fn pack(answer: Result<usize, Refusal>) -> u64
+    requires { Small answer }
+    ensures { result ≡ packed answer }
 {
-    (refusal as u64) * 4294967296 + (low as u64)
-}
-
-fn pack_written(w: Written) -> u64
-    requires { Small w }
-    ensures { result ≡ packed_written w }
-{
-    if w.refusal == 0 {
-        return pack(0, w.count);
+    match answer {
+        Ok(value) => value as u64,
+        Err(refusal) => (refusal.cause.number() as u64) * 4294967296 + (refusal.place as u64),
     }
-    pack(w.refusal, w.place)
 }
 
 fn date_number(d: Date) -> u32
@@ -55,18 +47,50 @@ fn date_number(d: Date) -> u32
     d.year * 512 + d.month * 32 + d.day
 }
 
-fn hand_over(c: Change) -> KumolendiChange
-    requires { c.place < 4294967296 }
-    ensures { result ≡ handed_over c }
+// A date's fields, or zeros where there is none.
+fn dated(date: Option<Date>) -> KumolendiChange
+    ensures { result ≡ dated date }
 {
+    let date = date.unwrap_or(Date {
+        year: 0,
+        month: 0,
+        day: 0,
+    });
     KumolendiChange {
-        refusal: c.refusal as u32,
-        place: c.place as u32,
-        year: c.year,
-        month: c.month,
-        day: c.day,
-        minute: c.minute,
-        examined: c.examined,
+        refusal: 0,
+        place: 0,
+        year: date.year,
+        month: date.month,
+        day: date.day,
+        minute: 0,
+        examined: 0,
+    }
+}
+
+fn hand_over(answer: Result<Change, Refused>) -> KumolendiChange
+    requires { SmallChange answer }
+    ensures { result ≡ handed_over answer }
+{
+    match answer {
+        Ok(change) => {
+            let examined = change.examined;
+            match change.at {
+                Some(moment) => KumolendiChange {
+                    minute: moment.minute,
+                    examined,
+                    ..dated(Some(moment.date))
+                },
+                None => KumolendiChange {
+                    examined,
+                    ..dated(None)
+                },
+            }
+        }
+        Err(refused) => KumolendiChange {
+            refusal: refused.refusal.cause.number() as u32,
+            place: refused.refusal.place as u32,
+            ..dated(refused.date)
+        },
     }
 }
 
@@ -95,17 +119,13 @@ pub fn kumolendi_list_day(
         dusk,
     };
     let date = Date { year, month, day };
-    let w = day_listing::list_day(
-        rules,
-        row,
+    let images = Images {
         public,
         public_unknown,
         school,
         school_unknown,
-        date,
-        &mut *out,
-    );
-    pack_written(w)
+    };
+    pack(day_listing::list_day(rules, row, &images, date, out))
 }
 
 pub fn kumolendi_next_change(
@@ -133,47 +153,36 @@ pub fn kumolendi_next_change(
         dusk,
     };
     let date = Date { year, month, day };
-    let c = next_change::next_change(
-        rules,
-        row,
+    let images = Images {
         public,
         public_unknown,
         school,
         school_unknown,
-        date,
-        minute,
-        days,
-    );
-    hand_over(c)
+    };
+    hand_over(next_change::next_change(rules, row, &images, date, minute, days))
 }
 
 pub fn kumolendi_check_rules(rules: &[u8]) -> u64
     ensures { result ≡ packed_rules (verdict_on rules.now) }
 {
-    let verdict = rule_image::check_sheet(rules);
-    match verdict {
-        Verdict::Accepted(count) => pack(0, count),
-        Verdict::Refused(n, place) => pack(n, place),
-    }
+    pack(rule_image::check_sheet(rules))
 }
 
 pub fn kumolendi_check_holidays(image: &[u8]) -> u64
     ensures { result ≡ packed_check (check_answer image.now) }
 {
-    let checked = holidays::check(image);
-    match checked {
-        Checked::Sound => 0,
-        Checked::Refused(n, place) => pack(n, place as usize),
+    match holidays::check(image) {
+        Ok(()) => pack(Ok(0)),
+        Err(refusal) => pack(Err(refusal)),
     }
 }
 
 pub fn kumolendi_holidays_in_month(image: &[u8], year: u32, month: u32) -> u64
     ensures { result ≡ packed_count (count_answer image.now year month) }
 {
-    let count = holidays::count_in_month(image, year, month);
-    match count {
-        Count::Days(days) => pack(0, days as usize),
-        Count::Refused(n, place) => pack(n, place as usize),
+    match holidays::count_in_month(image, year, month) {
+        Ok(days) => pack(Ok(days as usize)),
+        Err(refusal) => pack(Err(refusal)),
     }
 }
 
@@ -181,11 +190,10 @@ pub fn kumolendi_first_holiday_after(image: &[u8], year: u32, month: u32, day: u
     ensures { result ≡ packed_first (first_answer image.now (record { year = year; month = month; day = day })) }
 {
     let date = Date { year, month, day };
-    let first = holidays::first_after(image, date);
-    match first {
-        First::On(d) => pack(0, date_number(d) as usize),
-        First::Nothing => 0,
-        First::Refused(n, place) => pack(n, place as usize),
+    match holidays::first_after(image, date) {
+        Ok(Some(first)) => pack(Ok(date_number(first) as usize)),
+        Ok(None) => pack(Ok(0)),
+        Err(refusal) => pack(Err(refusal)),
     }
 }
 
@@ -193,20 +201,17 @@ pub fn kumolendi_first_holiday_after(image: &[u8], year: u32, month: u32, day: u
 pub fn kumolendi_build(given: &[u32], kind: u8, comment: u8, out: &mut [u32]) -> u64
     ensures { Stored (build_of given.now kind comment) out.old out.new result }
 {
-    let w = word_schedules::build(given, kind, comment, &mut *out);
-    pack_written(w)
+    pack(word_schedules::build(given, kind, comment, out))
 }
 
 pub fn kumolendi_addition(a: &[u32], b: &[u32], out: &mut [u32]) -> u64
     ensures { Stored (addition_of (offered a.now) (offered b.now)) out.old out.new result }
 {
-    let w = word_schedules::addition(a, b, &mut *out);
-    pack_written(w)
+    pack(word_schedules::addition(a, b, out))
 }
 
 pub fn kumolendi_listing(words: &[u32], out: &mut [u32]) -> u64
     ensures { Listed (offered words.now) out.old out.new result }
 {
-    let w = word_schedules::write_listing(words, &mut *out);
-    pack_written(w)
+    pack(word_schedules::write_listing(words, out))
 }

@@ -10,9 +10,10 @@ use lib.ListN.{length, length-append, get_or, take}
 use lib.Seq.{take_all, take-suc}
 use Rattle.ranges.specs.Words.{range_of, ranges}
 use Rattle.rendering.specs.Text.{spaced, kind_text, decimal, line_of, lines_of, refusal_line}
-use Rattle.rendering.specs.Writing.{Wrote}
+use Rattle.rendering.specs.declared.Writer.{Writer}
+use Rattle.rendering.specs.Writing.{Writes}
 use Rattle.rendering.proofs.Decimals.{decimal-few, decimal-short}
-use Rattle.rendering.proofs.Stores.{then}
+use Rattle.rendering.proofs.Stores.{behind}
 
 one_of_three : (b d : Bool) (x y z : List ℕ) (n : ℕ) → length x ≤ n → length y ≤ n → length z ≤ n → length (cond b x (cond d y z)) ≤ n
 one_of_three true d x y z n p q r = p
@@ -55,20 +56,16 @@ lines_snoc [] w = append-nil (line_of (range_of w))
 lines_snoc (x ∷ l) w = rw (lines_snoc l w) (sym (append_assoc (line_of (range_of x)) (lines_of (ranges l)) (line_of (range_of w))))
 
 -- what a loop has written of the words so far
-pub record Lined (o : List ℕ) (at : ℕ) (words : List ℕ) (i : ℕ) (o' : List ℕ) (p : ℕ) : Type 0 where
-  pub upto : i ≤ length words
-  pub near : p ≤ at + 24 * i
-  pub size : length o' ≡ length o
-  pub lines : Wrote o at (lines_of (ranges (take i words))) o' p
+pub record Lined (w : Writer) (words : List ℕ) (i : ℕ) (w' : Writer) : Type 0 where
+  pub near : w'.at ≤ w.at + 24 * i
+  pub lines : Writes w (lines_of (ranges (take i words))) w'
 
-pub line-more : (o o' o'' words : List ℕ) (at i p r : ℕ) → i < length words → length o'' ≡ length o' → Lined o at words i o' p → Wrote o' p (line_of (range_of (get_or words i 0))) o'' r → Lined o at words (i + 1) o'' r
-line-more o o' o'' words at i p r h s l w =
+pub line-more : (a b c : Writer) (words : List ℕ) (i : ℕ) → i < length words → Lined a words i b → Writes b (line_of (range_of (get_or words i 0))) c → Lined a words (i + 1) c
+line-more a b c words i h l w =
     record {
-      upto = omega arith;
       near = omega (arith, line-short (get_or words i 0));
-      size = omega arith;
-      lines = rw (add-one i, take-suc words i 0 h, lines_snoc (take i words) (get_or words i 0)) (then _ _ o o' o'' at p r l.lines w);
+      lines = rw (add-one i, take-suc words i 0 h, lines_snoc (take i words) (get_or words i 0)) (behind _ _ l.lines w);
     }
 
-pub lined-all : (o o' words : List ℕ) (at i p : ℕ) → length words ≤ i → Lined o at words i o' p → Wrote o at (lines_of (ranges words)) o' p
-lined-all o o' words at i p h l = rw (take_all i words h) at l.lines
+pub lined-all : (a b : Writer) (words : List ℕ) (i : ℕ) → length words ≤ i → Lined a words i b → Writes a (lines_of (ranges words)) b
+lined-all a b words i h l = rw (take_all i words h) at l.lines

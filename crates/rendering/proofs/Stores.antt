@@ -1,19 +1,13 @@
--- Runs of stores: from the front, from the back, one run behind another.
-use mathlib.Core.Path.{◌≡◌, refl, ap, ◌∙◌}
-use mathlib.Core.List.{List, [], ◌∷◌, ◌++◌}
-use Prim.Native.Nat.{ℕ, suc, ◌+◌, ◌≤◌, ◌<◌}
-use native.Mathlib.Numerals.{add-one}
+-- Runs of stores: from the back, one run behind another, one in place of another.
+use mathlib.Core.Path.{◌≡◌, refl, sym, ap, ◌∙◌}
+use mathlib.Core.List.{List, [], ◌∷◌, ◌++◌, append_assoc}
+use Prim.Native.Nat.{ℕ, suc, ◌+◌, ◌-◌, ◌≤◌}
 use native.Mathlib.Omega.{arith}
-use lib.ListN.{length, length-append, drop, get_or, set, drop_of_length-le}
-use lib.Seq.{sets, drop-cons, set_comm}
-use Rattle.rendering.specs.Writing.{Wrote}
-
--- The next store of a loop that stores xs from the front.
-pub front-step : (o xs : List ℕ) (p i : ℕ) → i < length xs → sets (set o p (get_or xs i 0)) (p + 1) (drop (i + 1) xs) ≡ sets o p (drop i xs)
-front-step o xs p i h = rw (add-one p, add-one i, drop-cons xs i 0 h)
-
-pub front-done : (o xs l : List ℕ) (p i : ℕ) → length xs ≤ i → sets o p (drop i xs) ≡ l → o ≡ l
-front-done o xs l p i h e = rw (drop_of_length-le xs h) at e
+use lib.ListN.{length, length-append, take, drop, set}
+use lib.Seq.{sets, sets-eq, length-sets, drop-drop, set_comm}
+use borrow.Rule.Slice.PartMut.{put_mid}
+use Rattle.rendering.specs.declared.Writer.{Writer}
+use Rattle.rendering.specs.Writing.{Wrote, Writes}
 
 -- A store behind a run may come before it.
 pub back_step : (xs o : List ℕ) (at x : ℕ) → sets (set o (at + length xs) x) at xs ≡ sets o at (xs ++ (x ∷ []))
@@ -38,18 +32,20 @@ then xs ys o o₁ o₂ at r₁ r₂ f s =
       holds = s.holds ∙ rw (f.next, f.holds) (two_runs xs ys o at);
     }
 
-pub nothing : (o : List ℕ) (at : ℕ) → Wrote o at [] o at
-nothing o at = record { next = omega arith; holds = refl }
+-- A part of a list put in place of another.
+pub put_in : (o xs : List ℕ) (at : ℕ) → at + length xs ≤ length o → Wrote o at xs (put_mid at (at + length xs - at) o xs) (at + length xs)
+put_in o xs at h =
+    let k : at + length xs - at ≡ length xs = omega arith in
+    record { next = refl; holds = rw (k, sets-eq xs o at h, drop-drop (length xs) at o) (sym (append_assoc (take at o) xs (drop (at + length xs) o))) }
 
-pub one_more : (o : List ℕ) (at x : ℕ) → Wrote o at (x ∷ []) (set o at x) (at + 1)
-one_more o at x = record { next = refl; holds = refl }
+-- What is written behind what was written.
+pub behind : (xs ys : List ℕ) {a b c : Writer} → Writes a xs b → Writes b ys c → Writes a (xs ++ ys) c
+behind xs ys f s =
+    record { same = s.same ∙ f.same; size = s.size ∙ f.size; is = then xs ys _ _ _ _ _ _ f.is s.is }
 
--- Six stores in a row.
-pub six : (o : List ℕ) (at a b c d e f : ℕ) → set (set (set (set (set (set o at a) (at + 1) b) (at + 2) c) (at + 3) d) (at + 4) e) (at + 5) f ≡ sets o at (a ∷ b ∷ c ∷ d ∷ e ∷ f ∷ [])
-six o at a b c d e f =
-    let e1 : at + 1 ≡ suc at = omega arith in
-    let e2 : at + 2 ≡ suc (suc at) = omega arith in
-    let e3 : at + 3 ≡ suc (suc (suc at)) = omega arith in
-    let e4 : at + 4 ≡ suc (suc (suc (suc at))) = omega arith in
-    let e5 : at + 5 ≡ suc (suc (suc (suc (suc at)))) = omega arith in
-    rw (e1, e2, e3, e4, e5)
+-- A write into lent bytes leaves as many.
+pub kept : (o xs o' : List ℕ) (at r : ℕ) → Wrote o at xs o' r → length o' ≡ length o
+kept o xs o' at r w = ap length w.holds ∙ length-sets o at xs
+
+pub nothing : (w : Writer) → Writes w [] w
+nothing w = record { same = refl; size = refl; is = record { next = omega arith; holds = refl } }

@@ -1,23 +1,16 @@
-// The program's lines, written into lent bytes. Each function stores from `at` on and answers the place behind what it stored.
+// The program's lines, written into lent bytes, one behind the other.
 #![tactic(auto)]
 
-ghost use Rattle.std.specs.Prelude.{◌+◌, ◌*◌, ◌<◌, ◌≤◌, length};
+ghost use Rattle.std.specs.Prelude.{◌≡◌, ◌*◌, ◌+◌, ◌<◌, ◌≤◌, length};
 ghost use Rattle.ranges.specs.Words.{range_of, ranges};
 ghost use Rattle.rendering.specs.Text.{spaced, ended, time_text, kind_text, decimal, line_of, lines_of, refusal_line, bad_input};
-ghost use Rattle.rendering.specs.Writing.{Wrote, Width};
+ghost use Rattle.rendering.specs.Writing.{HasRoom, Writes, Width};
 
-fn put_bytes(out: &mut [u8], at: usize, bytes: &[u8]) -> usize
-    requires { at + length bytes.now ≤ length out.old }
-    ensures { Wrote out.old at bytes.now out.new result }
-{
-    let mut p = at;
-    let mut i = 0;
-    while i < bytes.len() {
-        out[p] = bytes[i];
-        p += 1;
-        i += 1;
-    }
-    p
+// Lent bytes, and the place behind what is written in them.
+#[derive(Drop)]
+pub struct Writer<'a> {
+    pub out: &'a mut [u8],
+    pub at: usize,
 }
 
 // How many decimal digits a number has.
@@ -26,107 +19,118 @@ fn width(n: u64) -> usize
 {
     let mut k = 1;
     let mut rest = n;
-    while 9 < rest {
+    while rest > 9 {
         rest /= 10;
         k += 1;
     }
     k
 }
 
-// A number in decimal, from its last digit to its first.
-fn put_decimal(out: &mut [u8], at: usize, n: u64) -> usize
-    requires { at + length (decimal n) ≤ length out.old }
-    ensures { Wrote out.old at (decimal n) out.new result }
-{
-    let end = at + width(n);
-    let mut p = end;
-    let mut rest = n;
-    while at < p {
-        p -= 1;
-        out[p] = 48 + (rest % 10) as u8;
-        rest /= 10;
+impl<'a> Writer<'a> {
+    // Nothing is written yet.
+    pub fn new(out: &'a mut [u8]) -> Self
+        ensures { (result.out ≡ out.entry) × (result.at ≡ 0) }
+    {
+        Writer { out, at: 0 }
     }
-    end
-}
 
-// A number in decimal, and the line's end.
-fn put_last(out: &mut [u8], at: usize, n: u64) -> usize
-    requires { at + length (decimal n) < length out.old }
-    ensures { Wrote out.old at (ended (decimal n)) out.new result }
-{
-    let end = put_decimal(&mut *out, at, n);
-    out[end] = 10;
-    end + 1
-}
-
-// Hours and minutes, two digits each, and a space.
-fn put_time(out: &mut [u8], at: usize, t: u32) -> usize
-    requires { (t < 2048) × (at + 6 ≤ length out.old) }
-    ensures { Wrote out.old at (spaced (time_text t)) out.new result }
-{
-    let hours = t / 60;
-    let minutes = t % 60;
-    out[at] = 48 + (hours / 10) as u8;
-    out[at + 1] = 48 + (hours % 10) as u8;
-    out[at + 2] = 58;
-    out[at + 3] = 48 + (minutes / 10) as u8;
-    out[at + 4] = 48 + (minutes % 10) as u8;
-    out[at + 5] = 32;
-    at + 6
-}
-
-// A kind's name, and a space.
-fn put_kind(out: &mut [u8], at: usize, kind: u32) -> usize
-    requires { at + 8 ≤ length out.old }
-    ensures { Wrote out.old at (spaced (kind_text kind)) out.new result }
-{
-    if kind == 0 {
-        return put_bytes(&mut *out, at, b"open ");
+    fn put(&mut self, bytes: &[u8])
+        requires { HasRoom self.old (length bytes.now) }
+        ensures { Writes self.old bytes.now self.new }
+    {
+        let end = self.at + bytes.len();
+        self.out[self.at..end].copy_from_slice(bytes);
+        self.at = end;
     }
-    if kind == 1 {
-        return put_bytes(&mut *out, at, b"closed ");
+
+    // A number in decimal, from its last digit to its first.
+    fn put_decimal(&mut self, n: u64)
+        requires { HasRoom self.old (length (decimal n)) }
+        ensures { Writes self.old (decimal n) self.new }
+    {
+        let end = self.at + width(n);
+        let mut rest = n;
+        for place in (self.at..end).rev() {
+            self.out[place] = b'0' + (rest % 10) as u8;
+            rest /= 10;
+        }
+        self.at = end;
     }
-    put_bytes(&mut *out, at, b"unknown ")
-}
 
-// The line of an entry, at most 24 bytes.
-fn put_line(out: &mut [u8], at: usize, w: u32) -> usize
-    requires { at + 24 ≤ length out.old }
-    ensures { Wrote out.old at (line_of (range_of w)) out.new result }
-{
-    let a = put_time(&mut *out, at, w / 2097152);
-    let b = put_time(&mut *out, a, w / 1024 % 2048);
-    let c = put_kind(&mut *out, b, w / 256 % 4);
-    put_last(&mut *out, c, (w % 256) as u64)
-}
-
-// The lines of entries, each behind the one before.
-pub fn put_lines(out: &mut [u8], at: usize, words: &[u32]) -> usize
-    requires { at + 24 * length words.now ≤ length out.old }
-    ensures { Wrote out.old at (lines_of (ranges words.now)) out.new result }
-{
-    let mut p = at;
-    let mut i = 0;
-    while i < words.len() {
-        p = put_line(&mut *out, p, words[i]);
-        i += 1;
+    // A number in decimal, and the line's end.
+    fn put_last(&mut self, n: u64)
+        requires { HasRoom self.old (length (decimal n) + 1) }
+        ensures { Writes self.old (ended (decimal n)) self.new }
+    {
+        self.put_decimal(n);
+        self.put(b"\n");
     }
-    p
-}
 
-pub fn put_refusal(out: &mut [u8], at: usize, number: u8, place: usize) -> usize
-    requires { at + 40 ≤ length out.old }
-    ensures { Wrote out.old at (refusal_line number place) out.new result }
-{
-    let a = put_bytes(&mut *out, at, b"refused ");
-    let b = put_decimal(&mut *out, a, number as u64);
-    let c = put_bytes(&mut *out, b, b" place ");
-    put_last(&mut *out, c, place as u64)
-}
+    // Hours and minutes, two digits each, and a space.
+    fn put_time(&mut self, t: u32)
+        requires { (t < 2048) × HasRoom self.old 6 }
+        ensures { Writes self.old (spaced (time_text t)) self.new }
+    {
+        let hours = t / 60;
+        let minutes = t % 60;
+        self.put(&[
+            b'0' + (hours / 10) as u8,
+            b'0' + (hours % 10) as u8,
+            b':',
+            b'0' + (minutes / 10) as u8,
+            b'0' + (minutes % 10) as u8,
+            b' ',
+        ]);
+    }
 
-pub fn put_bad_input(out: &mut [u8], at: usize) -> usize
-    requires { at + 10 ≤ length out.old }
-    ensures { Wrote out.old at bad_input out.new result }
-{
-    put_bytes(&mut *out, at, b"bad input\n")
+    // A kind's name, and a space.
+    #[tactic(auto, unfolding(crate::specs::Text::kind_text))]
+    fn put_kind(&mut self, kind: u32)
+        requires { HasRoom self.old 8 }
+        ensures { Writes self.old (spaced (kind_text kind)) self.new }
+    {
+        match kind {
+            0 => self.put(b"open "),
+            1 => self.put(b"closed "),
+            _ => self.put(b"unknown "),
+        }
+    }
+
+    // The line of an entry, at most 24 bytes.
+    fn put_line(&mut self, word: u32)
+        requires { HasRoom self.old 24 }
+        ensures { Writes self.old (line_of (range_of word)) self.new }
+    {
+        self.put_time(word / 2097152);
+        self.put_time(word / 1024 % 2048);
+        self.put_kind(word / 256 % 4);
+        self.put_last(u64::from(word % 256));
+    }
+
+    // The lines of entries, each behind the one before.
+    pub fn put_lines(&mut self, words: &[u32])
+        requires { HasRoom self.old (24 * length words.now) }
+        ensures { Writes self.old (lines_of (ranges words.now)) self.new }
+    {
+        for word in words {
+            self.put_line(*word);
+        }
+    }
+
+    pub fn put_refusal(&mut self, number: u8, place: usize)
+        requires { HasRoom self.old 40 }
+        ensures { Writes self.old (refusal_line number place) self.new }
+    {
+        self.put(b"refused ");
+        self.put_decimal(u64::from(number));
+        self.put(b" place ");
+        self.put_last(place as u64);
+    }
+
+    pub fn put_bad_input(&mut self)
+        requires { HasRoom self.old 10 }
+        ensures { Writes self.old bad_input self.new }
+    {
+        self.put(b"bad input\n");
+    }
 }

@@ -1,217 +1,137 @@
-// What the programs that replay recorded vectors share. A line of a vector file is a question and the answer due to it,
-// each in hexadecimal digits, with a space between; a line that begins with '#' is for its reader.
+// Replays recorded vectors. A line of a vector file is a question and the answer due to it, each in hexadecimal digits,
+// with a space between; a line that begins with '#' is for its reader.
 #![tactic(auto)]
 
-ghost use Rattle.std.specs.Prelude.{◌≡◌, ◌+◌, ◌*◌, ◌<◌, ◌≤◌, true, false, length, slice_index, IfOk, OnErr, IsOk};
-ghost use Rattle.replay.specs.Replay.{begun, counted, word_at, Stands, Lined, Within};
+ghost use Rattle.std.specs.Prelude.{◌≡◌, [], ◌<◌, ◌≤◌, false, length, slice_index, IfOk, IfSome, OnErr, IsOk};
+ghost use Rattle.std.specs.Fn.{FnReturnsAtPair};
+ghost use Rattle.replay.specs.Replay.{counted, tally_of, Counts, word_at};
 
 use std::io::{self, Read};
 
-// How far a replay is: what of the block is not read yet, the vectors and differences so far; `more` is false at the end.
+mod blocks;
+
+use blocks::Blocks;
+
+// How many vectors there were, and how many of them have another answer than the due one.
 #[derive(Clone, Copy)]
 pub struct Tally {
-    pub at: usize,
-    pub have: usize,
     pub vectors: u32,
     pub differences: u32,
-    pub more: bool,
 }
 
-// A line's length, and the replay behind it.
-#[derive(Clone, Copy)]
-pub struct Line {
-    pub len: usize,
-    pub tally: Tally,
-}
-
-// How long a vector's question and its answer are; `ok` is false where the line is none.
-#[derive(Clone, Copy)]
-pub struct Vector {
-    pub ok: bool,
-    pub question: usize,
-    pub answer: usize,
-}
-
-// Where some digits end in the line, and what they say ends in the room.
-#[derive(Clone, Copy)]
-struct Run {
-    text: usize,
-    room: usize,
-}
-
-#[tactic(auto, unfolding(crate::specs::Replay::begun))]
-pub fn start() -> Tally
-    ensures { result ≡ begun }
+#[tactic(auto, unfolding(crate::specs::Replay::tally_of))]
+fn start() -> Tally
+    ensures { result ≡ tally_of [] }
 {
     Tally {
-        at: 0,
-        have: 0,
         vectors: 0,
         differences: 0,
-        more: true,
     }
 }
 
-// Reads until the room is full or the input ends, and gives how much was read.
-fn read_full<R: Read>(input: &mut R, room: &mut [u8]) -> io::Result<usize>
-    ensures { IfOk result (λ n. n ≤ length room.old) }
-{
-    let mut n = 0;
-    while n < room.len() {
-        let got = input.read(&mut room[n..])?;
-        if got == 0 {
-            return Ok(n);
-        }
-        n += got;
-    }
-    Ok(n)
-}
-
-// The next byte is at `at` of the block, which is filled anew where it is used up; at the input's end `more` is false.
-// Only a read can fail.
-fn next_byte<R: Read>(input: &mut R, block: &mut [u8], t: Tally) -> io::Result<Tally>
-    ensures ok { IfOk result (λ r. Stands (length block.old) t r) }
-    ensures there_already { t.at < t.have → t.have ≤ length block.old → IsOk result }
-{
-    let mut r = t;
-    if t.at < t.have {
-        if t.have <= block.len() {
-            return Ok(r);
-        }
-    }
-    let got = read_full(input, &mut *block)?;
-    r.at = 0;
-    r.have = got;
-    r.more = 0 < got;
-    Ok(r)
-}
-
-// Reads a line, without its end; what is longer than the room is cut there. Where a read fails, the line is lost,
-// and neither the block nor `t` serves for another call.
-pub fn next_line<R: Read>(
-    input: &mut R,
-    block: &mut [u8],
-    t: Tally,
-    line: &mut [u8],
-) -> io::Result<Line>
-    ensures ok { IfOk result (λ r. Lined (length line.old) t r) }
-    ensures err { OnErr result (0 < length line.old) }
-{
-    let mut tally = t;
-    let mut n = 0;
-    while n < line.len() {
-        tally = next_byte(input, &mut *block, tally)?;
-        if tally.more {} else {
-            return Ok(Line { len: n, tally });
-        }
-        let at = tally.at;
-        let b = block[at];
-        tally.at = at + 1;
-        if b == 10 {
-            return Ok(Line { len: n, tally });
-        }
-        line[n] = b;
-        n += 1;
-    }
-    Ok(Line { len: n, tally })
-}
-
-// The value of a hexadecimal digit, 16 for any other byte.
-fn digit(b: u8) -> u8
-    ensures { result ≤ 16 }
+fn digit(b: u8) -> Option<u8>
+    ensures { IfSome result (λ d. d < 16) }
 {
     match b {
-        48..=57 => b - 48,
-        97..=102 => b - 87,
-        _ => 16,
+        b'0'..=b'9' => Some(b - b'0'),
+        b'a'..=b'f' => Some(b - b'a' + 10),
+        _ => None,
     }
 }
 
-// Reads pairs of digits from `from` on into the room.
-fn digits(text: &[u8], from: usize, room: &mut [u8]) -> Run
-    requires { from ≤ length text.now }
-    ensures { (result.text ≤ length text.now) × (result.room ≤ length room.old) }
-{
-    let mut i = from;
-    let mut j = 0;
-    while text.len() - i >= 2 {
-        if room.len() <= j {
-            return Run { text: i, room: j };
-        }
-        let high = digit(text[i]);
-        let low = digit(text[i + 1]);
-        if 15 < high {
-            return Run { text: i, room: j };
-        }
-        if 15 < low {
-            return Run { text: i, room: j };
-        }
-        room[j] = high * 16 + low;
-        j += 1;
-        i += 2;
-    }
-    Run { text: i, room: j }
+// The byte that two digits say.
+fn byte_of(pair: &[u8; 2]) -> Option<u8> {
+    let high = digit(pair[0])?;
+    let low = digit(pair[1])?;
+    Some(high * 16 + low)
 }
 
-// A line's vector, its question and its answer each in a room of its own.
-pub fn vector_in(line: &[u8], question: &mut [u8], answer: &mut [u8]) -> Vector
-    ensures { Within (length question.old) (length answer.old) result }
+// Reads pairs of digits into the room, and gives how many bytes they say.
+fn bytes_in(text: &[u8], room: &mut [u8]) -> usize
+    ensures { result ≤ length room.old }
 {
-    let none = Vector {
-        ok: false,
-        question: 0,
-        answer: 0,
-    };
-    let asked = digits(line, 0, &mut *question);
-    let gap = asked.text;
-    if gap == line.len() {
-        return none;
+    let (pairs, _) = text.as_chunks::<2>();
+    for (n, (place, pair)) in room.iter_mut().zip(pairs).enumerate() {
+        match byte_of(pair) {
+            Some(b) => *place = b,
+            None => return n,
+        }
     }
-    if line[gap] != 32 {
-        return none;
+    room.len().min(pairs.len())
+}
+
+// How long a line's question and answer are, each in a room of its own; None where it has none.
+fn vector_in(line: &[u8], question: &mut [u8], due: &mut [u8]) -> Option<(usize, usize)>
+    ensures { IfSome result (λ v. (v.0 ≤ length question.old) × (v.1 ≤ length due.old)) }
+{
+    let asked = bytes_in(line, question);
+    let rest = line.get(2 * asked..)?;
+    let (gap, digits) = rest.split_first()?;
+    if *gap != b' ' {
+        return None;
     }
-    let due = digits(line, gap + 1, &mut *answer);
-    Vector {
-        ok: true,
-        question: asked.room,
-        answer: due.room,
-    }
+    Some((asked, bytes_in(digits, due)))
 }
 
 // One vector more; where its answer is another than the due one, its number is written, and that alone can fail.
 #[tactic(auto, unfolding(crate::specs::Replay::counted))]
-pub fn judged(rt: &impl Print, t: Tally, same: bool) -> io::Result<Tally>
+fn judged(rt: &impl Print, t: Tally, same: bool) -> io::Result<Tally>
     ensures ok { IfOk result (λ r. r ≡ counted t same) }
     ensures err { OnErr result (same ≡ false) }
 {
-    let vectors = std::num::wrapping_add_u32(t.vectors, 1);
+    let vectors = t.vectors.wrapping_add(1);
     if same {
-        return Ok(Tally {
-            at: t.at,
-            have: t.have,
-            vectors,
-            differences: t.differences,
-            more: t.more,
-        });
+        return Ok(Tally { vectors, ..t });
     }
     let number = t.vectors;
     println!(rt; "differs {number}")?;
+    let differences = t.differences.wrapping_add(1);
     Ok(Tally {
-        at: t.at,
-        have: t.have,
         vectors,
-        differences: std::num::wrapping_add_u32(t.differences, 1),
-        more: t.more,
+        differences,
     })
 }
 
-fn byte_at(bytes: &[u8], at: usize) -> u32
-    ensures { (result ≡ slice_index bytes.now at) × (result < 256) }
+// Writes the count of vectors and of differences, and gives back the second. Only the write can fail.
+fn report(rt: &impl Print, t: Tally) -> io::Result<u32>
+    ensures { IfOk result (λ n. n ≡ t.differences) }
 {
-    if at < bytes.len() {
-        return bytes[at] as u32;
+    let (vectors, differences) = (t.vectors, t.differences);
+    println!(rt; "vectors {vectors} differences {differences}")?;
+    Ok(differences)
+}
+
+// Replays the vectors of standard input, each line and each part of a vector in a room of its own: `says` tells whether
+// an answer is the one due to a question. The differences are written, and how many they are.
+pub fn run<F: Fn(&[u8], &[u8]) -> bool>(
+    rt: &(impl Input + Print),
+    line: &mut [u8],
+    question: &mut [u8],
+    due: &mut [u8],
+    says: F,
+) -> io::Result<Tally>
+    requires { F.IsAlwaysCallable says }
+    ensures { IfOk result (Counts (FnReturnsAtPair F.Fn says)) }
+{
+    let mut input = Blocks::new(rt.reader());
+    let mut tally = start();
+    for _ in 0..1000000 {
+        let Some(len) = input.next_line(line)? else {
+            break;
+        };
+        if let Some((asked, answered)) = vector_in(&line[..len], question, due) {
+            tally = judged(rt, tally, says(&question[..asked], &due[..answered]))?;
+        }
     }
-    0
+    report(rt, tally)?;
+    Ok(tally)
+}
+
+// The byte at a place, 0 past the end.
+fn byte_at(bytes: &[u8], at: usize) -> u8
+    ensures { result ≡ slice_index bytes.now at }
+{
+    bytes.get(at).copied().unwrap_or(0)
 }
 
 // The u32 at a place, most significant byte first; bytes past the end are 0.
@@ -219,24 +139,15 @@ fn byte_at(bytes: &[u8], at: usize) -> u32
 pub fn word(bytes: &[u8], at: usize) -> u32
     ensures { result ≡ word_at bytes.now at }
 {
-    if 4294967295 < at {
+    if at > 4294967295 {
         return 0;
     }
-    let a = byte_at(bytes, at);
-    let b = byte_at(bytes, at + 1);
-    let c = byte_at(bytes, at + 2);
-    let d = byte_at(bytes, at + 3);
-    a * 16777216 + b * 65536 + c * 256 + d
-}
-
-// Writes the count of vectors and of differences, and gives back the second. Only the write can fail.
-pub fn report(rt: &impl Print, t: Tally) -> io::Result<u32>
-    ensures { IfOk result (λ n. n ≡ t.differences) }
-{
-    let vectors = t.vectors;
-    let differences = t.differences;
-    println!(rt; "vectors {vectors} differences {differences}")?;
-    Ok(differences)
+    u32::from_be_bytes([
+        byte_at(bytes, at),
+        byte_at(bytes, at + 1),
+        byte_at(bytes, at + 2),
+        byte_at(bytes, at + 3),
+    ])
 }
 
 #[cfg(test)]

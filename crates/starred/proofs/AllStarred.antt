@@ -10,6 +10,7 @@ use Rattle.calendar.proofs.Weeks.{week-is}
 use Rattle.easter.specs.Easter.{golden, sun, moon, epact, used_epact, full_moon, sunday_after, easter_number}
 use Rattle.days.specs.declared.Day.{Day}
 use Rattle.extended_time.specs.Moments.{moment_of, signed_moment, sum_of}
+use Rattle.starred.specs.Starred.{found}
 use Rattle.date_filter.proofs.Examples.{february-30-ends, february-30-starts, last-friday, no-fifth-friday}
 use Rattle.time_filter.specs.declared.Events.{Events}
 use Rattle.time_filter.specs.Spans.{event_at, after, time_at, before, summer, morning, start_missing, filled_span, later_end, wrapped_end, interval_of}
@@ -46,4 +47,4 @@ alone n = n ∷ []
 pub all-starred : (r : Events) (x : Day) → AllHold (starred r x)
 unfolding interval_of wrapped_end later_end filled_span start_missing time_at event_at after moment_of signed_moment sum_of summer before morning
 all-starred r x =
-    (ap alone february-30-ends, (ap alone february-30-starts, (ap alone easter-2024, (ap alone (week-is late-2021 in-2020), (ap alone (week-is late-2024 in-2025), (ap alone last-friday, (ap alone no-fifth-friday, (refl, (refl, (refl, (refl, (refl, (refl, tt)))))))))))))
+    (ap found february-30-ends, (ap found february-30-starts, (ap alone easter-2024, (ap alone (week-is late-2021 in-2020), (ap alone (week-is late-2024 in-2025), (ap found last-friday, (ap found no-fifth-friday, (refl, (refl, (refl, (refl, (refl, (refl, tt)))))))))))))

@@ -1,5 +1,5 @@
 -- The starred examples: what the definitions give, and what it must be, each as a list of numbers.
-use Rattle.std.specs.Prelude.{◌≡◌, List, [], ◌∷◌, map, ℕ, pos, negsuc}
+use Rattle.std.specs.Prelude.{◌≡◌, List, [], ◌∷◌, map, ℕ, pos, negsuc, Option, Some, None}
 use Rattle.calendar.specs.Calendar.{day_number, iso_week}
 use Rattle.easter.specs.Easter.{easter_number}
 use Rattle.days.specs.declared.Day.{Day}
@@ -9,7 +9,6 @@ use Rattle.rules.specs.declared.Time.TheVariants as time
 use Rattle.date_bounds.specs.Bounds.{as_start, as_end, date_on}
 use Rattle.time_filter.specs.declared.Events.{Events}
 use Rattle.time_filter.specs.declared.Interval.{Interval}
-use Rattle.time_filter.specs.declared.Interval.TheVariants.{FromTo, NoCover}
 use Rattle.time_filter.specs.Spans.{interval_of}
 use Rattle.ranges.specs.Range.{Range}
 use Rattle.ranges.specs.Insertion.{add_r}
@@ -28,14 +27,19 @@ AllHold (e ∷ l) = (e.gives ≡ e.due) × AllHold l
 abbrev pub is : ℕ → ℕ → Example
 is a b = record { gives = a ∷ []; due = b ∷ [] }
 
+-- the number of a day that is found, none where there is none
+abbrev pub found : Option ℕ → List ℕ
+found (Some n) = n ∷ []
+found None = []
+
 -- the number of a date
 abbrev pub on : ℕ → ℕ → ℕ → ℕ
 on y m d = day_number (record { year = y; month = m; day = d })
 
 -- start and end of what a span covers, none where it covers nothing
-abbrev pub ends : Interval → List ℕ
-ends (FromTo s e) = s ∷ e ∷ []
-ends NoCover = []
+abbrev pub ends : Option Interval → List ℕ
+ends (Some i) = i.start ∷ i.end ∷ []
+ends None = []
 
 -- a span on day d of its month and month m, the rest of the day and the row whatever they are, but no sunrise and sunset at 19:00
 abbrev pub span_on : Events → Day → ℕ → ℕ → Time → Time → List ℕ
@@ -64,16 +68,16 @@ range a b k c = record { start = a; end = b; kind = k; comment = c }
 abbrev pub starred : Events → Day → List Example
 starred r x =
     -- 2021/02/30 as an end, and as a start
-    is (date_on as_end (date.Fixed 2021 2 30) 2021) (on 2021 2 28)
-    ∷ is (date_on as_start (date.Fixed 2021 2 30) 2021) (on 2021 3 1)
+    record { gives = found (date_on as_end (date.Fixed 2021 2 30) 2021); due = on 2021 2 28 ∷ [] }
+    ∷ record { gives = found (date_on as_start (date.Fixed 2021 2 30) 2021); due = on 2021 3 1 ∷ [] }
     -- Easter 2024
     ∷ is (easter_number 2024) (on 2024 3 31)
     -- ISO weeks
     ∷ is (iso_week (on 2021 1 1)) 53
     ∷ is (iso_week (on 2024 12 30)) 1
     -- the last Friday of February 2021; the fifth from the end is none
-    ∷ is (date_on as_end (date.Weekday 0 2 4 (negsuc 0)) 2021) (on 2021 2 26)
-    ∷ is (date_on as_end (date.Weekday 0 2 4 (negsuc 4)) 2021) 0
+    ∷ record { gives = found (date_on as_end (date.Weekday 0 2 4 (negsuc 0)) 2021); due = on 2021 2 26 ∷ [] }
+    ∷ record { gives = found (date_on as_end (date.Weekday 0 2 4 (negsuc 4)) 2021); due = [] }
     -- 10:00-10:00; 30:00-26:00
     ∷ record { gives = span_on r x x.month x.day (time.Fixed 600) (time.Fixed 600); due = 600 ∷ 2040 ∷ [] }
     ∷ record { gives = span_on r x x.month x.day (time.Fixed 1800) (time.Fixed 1560); due = 1800 ∷ 2880 ∷ [] }

@@ -1,105 +1,79 @@
 // Replays recorded questions about holiday images.
 #![tactic(auto)]
 
+ghost use Rattle.std.specs.Prelude.{◌≤◌};
+
 use calendar::Date;
-use holidays::{Checked, Count, First};
-use replay::Tally;
-use std::io::{self, Read};
+use images::Images;
+use refusals::Refusal;
+use std::io;
 
-// A refusal number, 0 for none, and a value or the place.
-fn two(due: &[u8], number: u32, value: u32) -> bool {
-    if replay::word(due, 0) == number {
-        return replay::word(due, 4) == value;
-    }
-    false
+// What is due is a refusal's number, 0 for an answer, and the answer or the place.
+fn says_refused(refusal: Refusal, due: &[u8]) -> bool {
+    replay::word(due, 0) == refusal.cause.number() as u32
+        && replay::word(due, 4) as usize == refusal.place
 }
 
-fn says_checked(answer: Checked, due: &[u8]) -> bool {
+fn says_checked(answer: Result<(), Refusal>, due: &[u8]) -> bool {
     match answer {
-        Checked::Sound => two(due, 0, 0),
-        Checked::Refused(number, place) => two(due, number as u32, place),
+        Ok(()) => replay::word(due, 0) == 0 && replay::word(due, 4) == 0,
+        Err(refusal) => says_refused(refusal, due),
     }
 }
 
-fn says_count(answer: Count, due: &[u8]) -> bool {
+fn says_count(answer: Result<u32, Refusal>, due: &[u8]) -> bool {
     match answer {
-        Count::Days(days) => two(due, 0, days),
-        Count::Refused(number, place) => two(due, number as u32, place),
+        Ok(days) => replay::word(due, 0) == 0 && replay::word(due, 4) == days,
+        Err(refusal) => says_refused(refusal, due),
     }
 }
 
-fn says_first(answer: First, due: &[u8]) -> bool {
+fn date_at(bytes: &[u8], at: usize) -> Date
+    requires { at ≤ 64 }
+{
+    let year = replay::word(bytes, at);
+    let month = replay::word(bytes, at + 4);
+    let day = replay::word(bytes, at + 8);
+    Date { year, month, day }
+}
+
+// The year 0 where there is no holiday.
+fn says_first(answer: Result<Option<Date>, Refusal>, due: &[u8]) -> bool {
     match answer {
-        First::On(date) => {
-            if two(due, 0, date.year) {
-                if replay::word(due, 8) == date.month {
-                    return replay::word(due, 12) == date.day;
-                }
-            }
-            false
-        }
-        First::Nothing => two(due, 0, 0),
-        First::Refused(number, place) => two(due, number as u32, place),
+        Ok(Some(date)) => replay::word(due, 0) == 0 && date_at(due, 4) == date,
+        Ok(None) => replay::word(due, 0) == 0 && replay::word(due, 4) == 0,
+        Err(refusal) => says_refused(refusal, due),
     }
 }
 
+// An image in its slot, 1 to 4, beside three empty ones.
 fn says_slot(slot: u32, image: &[u8], due: &[u8]) -> bool {
     let empty = [0u8; 0];
-    match slot {
-        1 => says_checked(holidays::check_slots(image, &empty, &empty, &empty), due),
-        2 => says_checked(holidays::check_slots(&empty, image, &empty, &empty), due),
-        3 => says_checked(holidays::check_slots(&empty, &empty, image, &empty), due),
-        _ => says_checked(holidays::check_slots(&empty, &empty, &empty, image), due),
-    }
+    let images = Images {
+        public: if slot == 1 { image } else { &empty },
+        public_unknown: if slot == 2 { image } else { &empty },
+        school: if slot == 3 { image } else { &empty },
+        school_unknown: if slot == 4 { image } else { &empty },
+    };
+    says_checked(holidays::check_slots(&images), due)
 }
 
 fn says(question: &[u8], due: &[u8]) -> bool {
-    if question.len() < 16 {
+    let Some(image) = question.get(16..) else {
         return false;
-    }
-    let year = replay::word(question, 4);
-    let month = replay::word(question, 8);
-    let day = replay::word(question, 12);
-    let image = &question[16..];
+    };
+    let date = date_at(question, 4);
     let asked = replay::word(question, 0);
     match asked {
         0 => says_checked(holidays::check(image), due),
         1..=4 => says_slot(asked, image, due),
-        5 => says_count(holidays::count_in_month(image, year, month), due),
-        _ => says_first(holidays::first_after(image, Date { year, month, day }), due),
+        5 => says_count(holidays::count_in_month(image, date.year, date.month), due),
+        _ => says_first(holidays::first_after(image, date), due),
     }
-}
-
-fn step<R: Read>(rt: &impl Print, input: &mut R, block: &mut [u8], t: Tally) -> io::Result<Tally> {
-    let mut line = [0u8; 32768];
-    let read = replay::next_line(input, &mut *block, t, &mut line)?;
-    let n = read.len;
-    let mut question = [0u8; 16384];
-    let mut due = [0u8; 32];
-    let v = replay::vector_in(&line[..n], &mut question, &mut due);
-    let after = read.tally;
-    if v.ok {
-        let q = v.question;
-        let d = v.answer;
-        return replay::judged(rt, after, says(&question[..q], &due[..d]));
-    }
-    Ok(after)
-}
-
-fn run(rt: &(impl Input + Print), block: &mut [u8]) -> io::Result<Tally> {
-    let mut input = rt.reader();
-    let mut t = replay::start();
-    let mut turns: u32 = 1000000;
-    while 0 < turns && t.more {
-        t = step(rt, &mut input, &mut *block, t)?;
-        turns -= 1;
-    }
-    Ok(t)
 }
 
 fn main(rt: HostRuntime) -> io::Result<()> {
-    let mut block = [0u8; 65536];
-    let t = run(&rt, &mut block)?;
-    replay::report(&rt, t)?;
+    let (line, question, due) = (&mut [0; 32768], &mut [0; 16384], &mut [0; 32]);
+    replay::run(&rt, line, question, due, says)?;
     Ok(())
 }

@@ -1,16 +1,13 @@
--- The frame decides between the listing and the one line.
-use Rattle.answers.proofs.Made.{framed-within, framed-made, bad-made}
+-- The parts decide between the listing and the one line; the listing stands in a room of 129 zeros.
 use borrow.Author.Rules.{rules}
+use Rattle.answers.proofs.Made.{listed-few, asked-made, bad-made}
 use Rattle.answers.proofs.respond.Goals as goal
 
-pub respond_framed-requires : goal.respond_framed-requires
-respond_framed-requires c =
-    let f = c.frame_of-frame in (framed-within _ _ f.ensures c.if-frame.true, search rules)
+pub say-requires : goal.say-requires
+say-requires c = (search rules, search rules, listed-few _ _ _ _ c.listed-answer.ensures (search rules))
 
-pub returns-then-frame : goal.returns-then-frame
-returns-then-frame c =
-    framed-made _ _ _ _ _ c.frame_of-frame.ensures c.if-frame.true c.respond_framed.ensures
+pub returns-in_default : goal.returns-in_default
+returns-in_default c = bad-made _ _ _ _ (search rules) c.say_bad_input.ensures
 
 pub returns : goal.returns
-returns c =
-    bad-made _ _ _ _ _ c.frame_of-frame.ensures c.if-frame.false (search rules) c.put_bad_input.ensures
+returns c = asked-made _ _ _ _ _ _ _ (search rules) c.listed-answer.ensures c.say.ensures

@@ -1,12 +1,8 @@
--- What the addition answers, packed.
-use Rattle.kumolendi.proofs.PackLaws.{stored}
-use Rattle.kumolendi.proofs.SizeLaws.{sum-small}
+-- What the addition answers fits.
 use lib.ListN.{length}
 use Rattle.word_schedules.specs.Stored.{offered}
+use Rattle.kumolendi.proofs.SizeLaws.{sum-small}
 use Rattle.kumolendi.proofs.kumolendi_addition.Goals as goal
 
-pub pack_written-requires : goal.pack_written-requires
-pack_written-requires c = sum-small (offered c.args.a.now) (offered c.args.b.now) (length c.args.out.now) _ c.addition-w.ensures.answer
-
-pub returns : goal.returns
-returns c = stored _ _ _ _ _ c.addition-w.ensures c.pack_written.ensures
+pub pack-requires : goal.pack-requires
+pack-requires c = rw c.addition.ensures.answer (sum-small (offered c.args.a.now) (offered c.args.b.now) (length c.args.out.now))

@@ -1,9 +1,6 @@
--- The check of an image by itself, packed.
-use Rattle.kumolendi.proofs.PackLaws.{check_sound, check-refused}
+-- A refusal's place fits.
+use Rattle.kumolendi.proofs.SizeLaws.{check-small}
 use Rattle.kumolendi.proofs.kumolendi_check_holidays.Goals as goal
 
-pub returns-in-Sound : goal.returns-in-Sound
-returns-in-Sound c = check_sound _ _ c.check-checked.ensures c.in-Sound.is
-
-pub returns-in-Refused : goal.returns-in-Refused
-returns-in-Refused c = check-refused _ _ c.check-checked.ensures _ _ _ c.in-Refused.is c.pack.ensures
+pub pack-requires-in-Err : goal.pack-requires-in-Err
+pack-requires-in-Err c = check-small c.args.image.now c.in-Err.refusal c.in-Err.ensures

@@ -1,16 +1,9 @@
--- The date found, packed.
-use Rattle.kumolendi.proofs.PackLaws.{first_on, first-none, first-refused}
-use Rattle.kumolendi.proofs.SizeLaws.{first_small}
+-- The date found fits, and a refusal's place.
+use Rattle.kumolendi.proofs.SizeLaws.{first_small, first-refused}
 use Rattle.kumolendi.proofs.kumolendi_first_holiday_after.Goals as goal
 
 pub date_number-requires : goal.date_number-requires
-date_number-requires c = first_small _ _ _ _ c.first_after-first.ensures c.in-On.is
+date_number-requires c = first_small c.args.image.now (record { year = c.args.year; month = c.args.month; day = c.args.day }) c.in-Ok-Some.first (rw c.in-Ok-Some.field-0-is at c.in-Ok-Some.ensures)
 
-pub returns-in-On : goal.returns-in-On
-returns-in-On c = first_on _ _ c.first_after-first.ensures _ _ _ c.in-On.is c.date_number.ensures c.pack.ensures
-
-pub returns-in-Nothing : goal.returns-in-Nothing
-returns-in-Nothing c = first-none _ _ c.first_after-first.ensures c.in-Nothing.is
-
-pub returns-in-Refused : goal.returns-in-Refused
-returns-in-Refused c = first-refused _ _ c.first_after-first.ensures _ _ _ c.in-Refused.is c.pack-in-Refused.ensures
+pub pack-requires-in-Err : goal.pack-requires-in-Err
+pack-requires-in-Err c = first-refused c.args.image.now (record { year = c.args.year; month = c.args.month; day = c.args.day }) c.in-Err.refusal c.in-Err.ensures

@@ -1,9 +1,6 @@
--- The count, packed.
-use Rattle.kumolendi.proofs.PackLaws.{count-days, count-refused}
+-- A refusal's place fits.
+use Rattle.kumolendi.proofs.SizeLaws.{count-small}
 use Rattle.kumolendi.proofs.kumolendi_holidays_in_month.Goals as goal
 
-pub returns-in-Days : goal.returns-in-Days
-returns-in-Days c = count-days _ _ c.count_in_month-count.ensures _ _ c.in-Days.is c.pack.ensures
-
-pub returns-in-Refused : goal.returns-in-Refused
-returns-in-Refused c = count-refused _ _ c.count_in_month-count.ensures _ _ _ c.in-Refused.is c.pack-in-Refused.ensures
+pub pack-requires-in-Err : goal.pack-requires-in-Err
+pack-requires-in-Err c = count-small c.args.image.now c.args.year c.args.month c.in-Err.refusal c.in-Err.ensures

@@ -1,5 +1,0 @@
--- The turns fall.
-use Rattle.vectors_calendar.proofs.run.Given as goal
-
-abbrev pub decreases-loop-turns : goal.decreases-loop-turns
-decreases-loop-turns g l = l.turns
