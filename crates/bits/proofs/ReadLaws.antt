@@ -245,15 +245,13 @@ module _ {A : Type 0} (form : ℕ → Place → Read A) (s : List ℕ) (w hi top
 module _ {A : Type 0} (form : ℕ → Place → Read A) (s : List ℕ) (w hi top : ℕ) (h : hi ≤ top) (at : ℕ) where
   pub tag-read : (r : Reading ℕ) → Number (Ok r) s at w 0 top NoMeaning → (n : ℕ) → r.item ≡ n → n ≤ hi
       → form n (At r.end) ≡ form (number_at s (At at) w 0 hi NoMeaning).item (number_at s (At at) w 0 hi NoMeaning).place
-  tag-read r t n f k =
-      let g = code-right s w 0 hi top h (At at) _ (read_is r _ t.is) (in-range 0 hi r.item (omega arith) (omega arith)) in
-      rw (← g, f)
+  tag-read r t n f k = tag-right form s w hi top h (At at) _ (read_is r _ t.is) n f k
 
   pub tag-refused : ((n : ℕ) → Stays (form n)) → (r : Reading ℕ) → Number (Ok r) s at w 0 top NoMeaning → hi < r.item
       → (form (number_at s (At at) w 0 hi NoMeaning).item (number_at s (At at) w 0 hi NoMeaning).place).place ≡ Refused NoMeaning at
   unfolding unmeant
   tag-refused stays r t k =
-      let g = code-wrong s w 0 hi top h (At at) _ (read_is r _ t.is) (too-high 0 hi r.item k) in
+      let g = tag-wrong form s w hi top h (At at) _ (read_is r _ t.is) (Refused NoMeaning at) refl k in
       rw (← g) (stays 0 NoMeaning at)
 
   pub no-tag : ((n : ℕ) → Stays (form n)) → (e : Refusal) → Number (Err e) s at w 0 top NoMeaning

@@ -1,17 +1,12 @@
 -- The forms of a weekday item, the shifted day that a holiday item looks up, and lists with a matching item.
 -- Assumes nothing.
-use mathlib.Core.Path.{◌≡◌, refl, sym, ap, ◌∙◌}
-use mathlib.Core.Bool.{Bool, true, false, ◌||◌, false≢true}
-use mathlib.Core.List.{List, [], ◌∷◌}
+use mathlib.Core.Path.{◌≡◌, ap, ◌∙◌}
+use mathlib.Core.Bool.{Bool, true, false, ◌||◌}
 use Prim.Native.Nat.{ℕ, ◌≤◌}
 use native.Mathlib.Omega.{arith}
 use lib.IntN.{ℤ}
 use mir.Syntax.{w16}
 use mir.Val.{to_z, of_z}
-use lib.ListN.{length}
-use borrow.Author.Tests.{eqb-true}
-use Rattle.std.specs.Bool.{◌==◌}
-use Rattle.std.specs.List.{list_any}
 use Rattle.calendar.specs.Moved.{moved_back}
 use Rattle.calendar.proofs.Offsets.{moved_back-low, again}
 use Rattle.days.specs.DayOf.{day_of}
@@ -21,9 +16,9 @@ use Rattle.rules.specs.declared.WeekdayRange.TheVariants.{Fixed, Holiday}
 use Rattle.holiday_image.specs.Image.{sound}
 use Rattle.date_items.specs.Items.{shifted, weekday_matches}
 use Rattle.date_items.proofs.Laws.{is-day, own-number}
-use Rattle.date_ranges.specs.Ranges.{some}
-use Rattle.date_lists.specs.Lists.{list_matches}
 use Rattle.date_filter.specs.Filter.{Holidays, certain_of, unknown_of, in_image, weekday_item_matches, item_unknown, Sound, WeekdayOk}
+-- a list is searched as the lists of years and months are
+pub use Rattle.date_lists.proofs.Loops.{some_any, none_listed, any_listed}
 
 -- the image of each kind is sound
 pub certain_sound : (h : Holidays) → Sound h → (b : Bool) → sound (certain_of h b) ≡ true
@@ -36,15 +31,15 @@ unfolding unknown_of
 unknown_sound h s true = s.school_unknown
 unknown_sound h s false = s.public_unknown
 
+pub never-unknown : (item : WeekdayItem) (d : Day) (h : Holidays) {s e f l : ℕ} {z : ℤ} → item.form ≡ Fixed s e f l z → false ≡ item_unknown h item.form d
+unfolding item_unknown
+never-unknown item d h e = rw e
+
 module _ (item : WeekdayItem) (d : Day) (k : WeekdayOk item) where
   -- an offset comes back from its bits
   pub on-fixed : (h : Holidays) {s e f l : ℕ} {z : ℤ} → item.form ≡ Fixed s e f l z → weekday_matches s e f l (to_z w16 (of_z w16 z)) d ≡ weekday_item_matches h item.form d
   unfolding weekday_item_matches
   on-fixed h {z = z} e = rw (e, again z (rw e at k.form))
-
-  pub never-unknown : (h : Holidays) {s e f l : ℕ} {z : ℤ} → item.form ≡ Fixed s e f l z → false ≡ item_unknown h item.form d
-  unfolding item_unknown
-  never-unknown h e = rw e
 
   module _ {b : Bool} {z : ℤ} (e : item.form ≡ Holiday b z) (s : Day) (q : s ≡ shifted d (to_z w16 (of_z w16 z))) where
     moved : s ≡ shifted d z
@@ -64,21 +59,3 @@ module _ (item : WeekdayItem) (d : Day) (k : WeekdayOk item) where
     pub unknown-on : (h : Holidays) → in_image (unknown_of h b) s ≡ item_unknown h item.form d
     unfolding item_unknown
     unknown-on h = rw (e, moved)
-
--- a search of a list finds an item that passes, by induction
-pub some_any : {A : Type 0} (p : A → Bool) (xs : List A) → some p xs ≡ list_any p xs
-unfolding some
-some_any p [] = refl
-some_any p (x ∷ xs) = ap (λ (b : Bool). p x || b) (some_any p xs)
-
--- what `is_empty` answers
-module _ {A : Type 0} (p : A → Bool) where
-  pub none_listed : (xs : List A) (b : Bool) → b ≡ true → b ≡ (length xs == 0) → b ≡ list_matches p xs
-  unfolding list_matches
-  none_listed [] b t e = t
-  none_listed (x ∷ xs) b t e = let z = eqb-true (length (x ∷ xs)) 0 (sym e ∙ t) in absurd (omega arith)
-
-  pub any_listed : (xs : List A) (b : Bool) → b ≡ false → b ≡ (length xs == 0) → list_any p xs ≡ list_matches p xs
-  unfolding list_matches
-  any_listed [] b f e = absurd (false≢true (sym f ∙ e))
-  any_listed (x ∷ xs) b f e = sym (some_any p (x ∷ xs))

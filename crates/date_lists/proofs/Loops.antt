@@ -1,15 +1,15 @@
 -- The loop over the first n items of a room: what holds of those left holds of all.
 -- Assumes nothing.
-use mathlib.Core.Path.{◌≡◌, refl, ap, sym, ◌∙◌}
+use mathlib.Core.Path.{◌≡◌, refl, sym, ◌∙◌}
 use mathlib.Core.Bool.{Bool, true, false, ◌||◌, false≢true}
 use borrow.Author.Tests.{eqb-true}
 use lib.Dec.{eqb}
 use mathlib.Core.List.{List, [], ◌∷◌, map}
-use Prim.Native.Nat.{ℕ, ◌+◌, ◌≤◌, ◌<◌}
+use Prim.Native.Nat.{ℕ, zero, suc, ◌+◌, ◌≤◌, ◌<◌}
 use native.Mathlib.Numerals.{add-one}
 use native.Mathlib.Omega.{arith}
 use lib.ListN.{length, take, drop, get_or, length-take, length-map, drop_of_length-le}
-use lib.Seq.{drop-cons, get_or-take}
+use lib.Seq.{drop-cons, get_or-take, take-length}
 use Rattle.date_ranges.specs.Ranges.{some}
 use Rattle.std.specs.List.{list_any}
 use Rattle.date_lists.specs.Lists.{list_matches}
@@ -56,10 +56,25 @@ module _ {A : Type 0} (p : A → Bool) (xs : List A) (n : ℕ) where
     pub ended : n ≤ i → false ≡ some p (take n xs)
     ended h = sym (rw (peeled xs n i h, some-nil p) at st.left)
 
-some_any : {A : Type 0} (p : A → Bool) (xs : List A) → some p xs ≡ list_any p xs
-unfolding some
-some_any p [] = refl
-some_any p (x ∷ xs) = ap (λ b. p x || b) (some_any p xs)
+-- What std's any walks over: a match that is found, an item that is passed, and the end tell of all items.
+module _ {A : Type 0} (p : A → Bool) (xs : List A) (n : ℕ) (none : A) where
+  stepped : (i : ℕ) → Looked p xs n i → i < n → (Looked p xs n (i + 1) → list_any p (drop (i + 1) (take n xs)) ≡ some p (take n xs)) → list_any p (drop i (take n xs)) ≡ some p (take n xs)
+  stepped i st h more = by (p (get_or xs i none)) refl
+    where
+      by : (b : Bool) → b ≡ p (get_or xs i none) → list_any p (drop i (take n xs)) ≡ some p (take n xs)
+      by true f = rw (peel xs n i none h st.long, ← f) (found p xs n i st none h true f refl)
+      by false f = rw (peel xs n i none h st.long, ← f) (more (passed p xs n i st none h false f refl))
+
+  walked : (k i : ℕ) → i + k ≡ n → Looked p xs n i → list_any p (drop i (take n xs)) ≡ some p (take n xs)
+  walked zero i e st = rw (peeled xs n i (omega arith)) (ended p xs n i st (omega arith))
+  walked (suc k) i e st = stepped i st (omega arith) (walked k (i + 1) (omega arith))
+
+pub some_any : {A : Type 0} (p : A → Bool) (xs : List A) → some p xs ≡ list_any p xs
+some_any p [] = some-nil p
+some_any {A} p (x ∷ xs) =
+    let n = length (x ∷ xs) in
+    let w : list_any p (drop 0 (take n (x ∷ xs))) ≡ some p (take n (x ∷ xs)) = walked {A = A} p (x ∷ xs) n x n 0 (omega arith) (looking p (x ∷ xs) n (omega arith)) in
+    sym (rw (take-length xs) at w)
 
 -- an empty list asks for nothing, another for an item that matches
 module _ {A : Type 0} (p : A → Bool) where

@@ -2,7 +2,7 @@
 #![tactic(auto)]
 
 ghost use Rattle.std.specs.Prelude.{◌≡◌, ◌+◌, ◌<◌, ◌≤◌, length, get_or, IfSome};
-ghost use Rattle.framing.specs.Reading.{whole, frame_of, bytes_of, parts_of, Half, Behind, Within};
+ghost use Rattle.framing.specs.Reading.{whole, places_of, frame_of, bytes_of, parts_of, Half, Behind, Within};
 
 use images::Images;
 use std::marker::Model;
@@ -45,13 +45,13 @@ impl<'a> Model for Question<'a> {
 
 // Where the parts of a framed input start: the rules at 0, each image and the rules at their length.
 #[derive(Clone, Copy)]
-struct Frame {
-    events: usize,
-    public: usize,
-    public_unknown: usize,
-    school: usize,
-    school_unknown: usize,
-    date: usize,
+pub struct Frame {
+    pub events: usize,
+    pub public: usize,
+    pub public_unknown: usize,
+    pub school: usize,
+    pub school_unknown: usize,
+    pub date: usize,
 }
 
 // The byte at a place, 0 past the end.
@@ -62,7 +62,7 @@ fn byte_at(input: &[u8], at: usize) -> u8
 }
 
 // The u16 at a place, most significant byte first.
-fn half_at(input: &[u8], at: usize) -> u16
+pub fn half_at(input: &[u8], at: usize) -> u16
     requires { at < 1000000 }
     ensures { Half input.now at result }
 {
@@ -85,9 +85,10 @@ fn is_whole(len: usize, end: usize) -> bool
     len <= 65536 && end == len
 }
 
-fn frame_of(input: &[u8]) -> Option<Frame>
-    ensures is { result ≡ frame_of input.now }
-    ensures within { IfSome result (λ f. Within f (length input.now)) }
+// Where the parts would start, framed or not.
+pub fn places_of(input: &[u8]) -> Frame
+    ensures is { result ≡ places_of input.now }
+    ensures near { result.date < 400000 }
 {
     let events = behind_sized(input, 0);
     let public = events + 8;
@@ -95,17 +96,25 @@ fn frame_of(input: &[u8]) -> Option<Frame>
     let school = behind_sized(input, public_unknown);
     let school_unknown = behind_sized(input, school);
     let date = behind_sized(input, school_unknown);
-    if !is_whole(input.len(), date + 6) {
-        return None;
-    }
-    Some(Frame {
+    Frame {
         events,
         public,
         public_unknown,
         school,
         school_unknown,
         date,
-    })
+    }
+}
+
+pub fn frame_of(input: &[u8]) -> Option<Frame>
+    ensures is { result ≡ frame_of input.now }
+    ensures within { IfSome result (λ f. Within f (length input.now)) }
+{
+    let f = places_of(input);
+    if !is_whole(input.len(), f.date + 6) {
+        return None;
+    }
+    Some(f)
 }
 
 // The bytes behind their length, up to the next part.

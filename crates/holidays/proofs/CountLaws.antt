@@ -1,7 +1,7 @@
 -- The ones of a month's bits are its holidays; outside the image's years there are none.
 -- Assumes nothing.
 use mathlib.Core.Path.{◌≡◌, refl, ap, sym, ◌∙◌}
-use mathlib.Core.Bool.{true, false, cond}
+use mathlib.Core.Bool.{Bool, true, false, cond}
 use mathlib.Core.List.{List}
 use Prim.Native.Nat.{ℕ, zero, suc, ◌+◌, ◌-◌, ◌<◌}
 use native.Mathlib.Omega.{arith}
@@ -9,8 +9,13 @@ use lib.Count.{ones}
 use lib.Dec.{eqb}
 use borrow.Author.Tests.{eq-eqb, ne_eqb}
 use Rattle.bits.specs.Bits.{bits, bit_at}
+use Rattle.calendar.specs.Calendar.{leap}
+use Rattle.calendar.specs.declared.Date.{Date}
+use Rattle.calendar.proofs.Days.{length-low}
+use Rattle.dates.specs.Exists.{is_month, is_date}
+use Rattle.dates.proofs.There.{month-there, passes}
 use Rattle.holiday_image.specs.Image.{first_year, month_bit, has_year, names}
-use Rattle.holiday_image.proofs.Tests.{split}
+use Rattle.holiday_image.proofs.Tests.{split, and_left}
 use Rattle.holidays.specs.Answers.{count_to}
 use Rattle.holidays.proofs.BitLaws.{ones_none, ones-more}
 
@@ -43,3 +48,29 @@ count_none s y m (suc w) e = rw (count_none s y m w e, unnamed s y m (suc w) e)
 -- what the code counts is the answer
 pub count-said : (s : List ℕ) (y m v : ℕ) → has_year s y ≡ true → v ≡ bits s (month_bit (first_year s) y m) 31 → ones v ≡ count_to s y m 31
 count-said s y m v e f = ap ones f ∙ sym (count_ones s y m 31 e)
+
+-- there is a month exactly where there is its first day
+
+month-of : (d : Date) → is_date d ≡ true → is_month d.year d.month ≡ true
+unfolding is_date
+month-of d e = and_left (is_month d.year d.month) _ e
+
+first_of : (y m : ℕ) → is_month y m ≡ true → is_date (record { year = y; month = m; day = 1 }) ≡ true
+first_of y m e =
+    let t = month-there y m e in
+    let l = length-low (leap y) m t.month_low t.month_high in
+    passes (record { year = y; month = m; day = 1 })
+    (record {
+      valid = record { month_low = t.month_low; month_high = t.month_high; day_low = omega arith; day_high = omega arith };
+      low = t.year-low;
+      high = t.year-high;
+    })
+
+pub first-day-tells : (y m : ℕ) → is_date (record { year = y; month = m; day = 1 }) ≡ is_month y m
+first-day-tells y m = by_cases (is_month y m) refl (is_date (record { year = y; month = m; day = 1 })) refl
+  where
+    by_cases : (a : Bool) → is_month y m ≡ a → (b : Bool) → is_date (record { year = y; month = m; day = 1 }) ≡ b
+        → is_date (record { year = y; month = m; day = 1 }) ≡ is_month y m
+    by_cases true f b g = first_of y m f ∙ sym f
+    by_cases false f true g = g ∙ sym (month-of (record { year = y; month = m; day = 1 }) g)
+    by_cases false f false g = g ∙ sym f

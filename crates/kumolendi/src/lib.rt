@@ -193,7 +193,7 @@ pub fn kumolendi_first_holiday_after(image: &[u8], year: u32, month: u32, day: u
     match holidays::first_after(image, date) {
         Ok(Some(first)) => pack(Ok(date_number(first) as usize)),
         Ok(None) => pack(Ok(0)),
-        Err(refusal) => pack(Err(refusal)),
+        Err(refused) => pack(Err(refused)),
     }
 }
 

@@ -3,13 +3,14 @@ ghost use Rattle.std.specs.Prelude.{◌<◌, ◌≤◌, length, IfOk, IfSome, On
 
 use std::io::{self, Read};
 
-// The block that was read last, and where the next byte stands in it.
+// The block that was read last, where the next byte stands in it, and whether the input's end was found, behind which nothing is read.
 #[derive(Drop)]
 pub(super) struct Blocks<R> {
     input: R,
     block: [u8; 65536],
     at: usize,
     have: usize,
+    ended: bool,
     ghost within: { have ≤ 65536 },
 }
 
@@ -20,6 +21,7 @@ impl<R: Read> Blocks<R> {
             block: [0; 65536],
             at: 0,
             have: 0,
+            ended: false,
         }
     }
 
@@ -27,9 +29,10 @@ impl<R: Read> Blocks<R> {
     fn next_byte(&mut self) -> io::Result<Option<u8>>
         ensures { self.old.at < self.old.have → IsOk result }
     {
-        if self.at >= self.have {
+        if self.at >= self.have && !self.ended {
             self.at = 0;
             self.have = filling::fill(&mut self.input, &mut self.block)?;
+            self.ended = self.have == 0;
         }
         if self.at >= self.have {
             return Ok(None);

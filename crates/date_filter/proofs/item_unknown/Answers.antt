@@ -9,7 +9,7 @@ in_image-requires c =
     (rw c.unknown.ensures (unknown_sound _ c.requires.0.sound _), p.0, p.1)
 
 pub returns-in-Fixed : goal.returns-in-Fixed
-returns-in-Fixed c = never-unknown c.args.item.now _ c.requires.1 _ c.in-Fixed.is
+returns-in-Fixed c = never-unknown c.args.item.now _ _ c.in-Fixed.is
 
 pub returns-in-Holiday : goal.returns-in-Holiday
 returns-in-Holiday c =

@@ -6,4 +6,4 @@ pub date_number-requires : goal.date_number-requires
 date_number-requires c = first_small c.args.image.now (record { year = c.args.year; month = c.args.month; day = c.args.day }) c.in-Ok-Some.first (rw c.in-Ok-Some.field-0-is at c.in-Ok-Some.ensures)
 
 pub pack-requires-in-Err : goal.pack-requires-in-Err
-pack-requires-in-Err c = first-refused c.args.image.now (record { year = c.args.year; month = c.args.month; day = c.args.day }) c.in-Err.refusal c.in-Err.ensures
+pack-requires-in-Err c = first-refused c.args.image.now (record { year = c.args.year; month = c.args.month; day = c.args.day }) c.in-Err.refused c.in-Err.ensures
