@@ -85,7 +85,7 @@ fn is_whole(len: usize, end: usize) -> bool
     len <= 65536 && end == len
 }
 
-// Where the parts would start, framed or not.
+// Where the parts would start, framed or not: five lengths of at most 65,535 and the events keep the last below 400,000.
 pub fn places_of(input: &[u8]) -> Frame
     ensures is { result ≡ places_of input.now }
     ensures near { result.date < 400000 }
@@ -106,6 +106,7 @@ pub fn places_of(input: &[u8]) -> Frame
     }
 }
 
+// The places of a framed input.
 pub fn frame_of(input: &[u8]) -> Option<Frame>
     ensures is { result ≡ frame_of input.now }
     ensures within { IfSome result (λ f. Within f (length input.now)) }
