@@ -10,9 +10,8 @@ use lib.IntN.{pos, nat_abs}
 use lib.ListN.{length}
 use lib.Pow.{pow-add, high, low, shl_lt, shl-shr, shr-shr}
 use Rattle.bits.specs.Bits.{bits, field_at, ahead_of, part}
-use Rattle.refusals.specs.declared.Cause.{Cause}
-use Rattle.refusals.specs.declared.Cause.TheVariants.{PastLimits}
-use Rattle.bits.specs.Place.{At, within, at_most, number_at, signed_at}
+use Rattle.refusals.specs.declared.Cause.TheVariants.{PastEnd, PastLimits}
+use Rattle.bits.specs.Place.{At, within, at_most, number_of, signed_at}
 use Rattle.bits.specs.Signed.{signed_of}
 use Rattle.std.specs.Prelude.{Some}
 use Rattle.bits.proofs.BitsLaws.{bits-lt, bits-add, middle, value}
@@ -75,12 +74,12 @@ module _ (s : List ℕ) (at w : ℕ) (x : Front s at w) (o f d : ℕ) (h : o + f
   field_is = value s q f (omega (arith, x.whole)) ∙ ap Some (sym part-is)
 
   -- a part within its limits is the number read there
-  pub number-ahead : (lo hi : ℕ) (cause : Cause) → within lo hi (part w d f) ≡ true → record { item = part w d f; place = At (q + f) } ≡ number_at s (At q) f lo hi cause
-  number-ahead lo hi cause k = number-is s q f lo hi cause (part w d f) field_is k
+  pub number-ahead : {C : Type 0} (lo hi : ℕ) (past cause : C) → within lo hi (part w d f) ≡ true → record { item = part w d f; place = At (q + f) } ≡ number_of past s (At q) f lo hi cause
+  number-ahead lo hi past cause k = number-is s q f lo hi past cause (part w d f) field_is k
 
   pub signed-ahead : (limit : ℕ) → nat_abs (signed_of (2 ^ f) (part w d f)) ≤ limit
       → record { item = signed_of (2 ^ f) (part w d f); place = At (q + f) } ≡ signed_at s (At q) f limit
   unfolding signed_at
   signed-ahead limit k =
-      read_right (pos 0) (λ (v : ℕ). at_most limit (signed_of (2 ^ f) v)) (signed_of (2 ^ f)) PastLimits f s q (part w d f) field_is
+      read_right (pos 0) (λ (v : ℕ). at_most limit (signed_of (2 ^ f) v)) (signed_of (2 ^ f)) PastEnd PastLimits f s q (part w d f) field_is
       (le-leb (nat_abs (signed_of (2 ^ f) (part w d f))) limit k)

@@ -19,26 +19,26 @@ use Rattle.refusals.specs.declared.Cause.{Cause}
 use Rattle.refusals.specs.declared.Cause.TheVariants.{PastEnd, NoMeaning, PastLimits}
 use Rattle.refusals.specs.declared.Refusal.{Refusal}
 use Rattle.refusals.specs.Numbers.{refused}
-use Rattle.bits.specs.Place.{Place, At, Refused, Read, unmeant, judged, read_at, within, at_most, number_at, signed_at, answer_at, outcome, Found, Number}
+use Rattle.bits.specs.Place.{Place, PlaceOf, At, Refused, Read, ReadOf, untaken, judged, read_at, within, at_most, number_of, number_at, signed_at, answer_at, answered, outcome, stated, Found, NumberOf, Number}
 use Rattle.bits.specs.declared.Reading.{Reading}
 use Rattle.bits.proofs.BitsLaws.{value-lt}
 use Rattle.bits.proofs.SignLaws.{same16, over, under}
 
 -- the three cases of a field at a bit
-read_past : {A : Type 0} (none : A) (right : ℕ → Bool) (means : ℕ → A) (cause : Cause) (w : ℕ) (s : List ℕ) (at : ℕ) → field_at s at w ≡ None
-    → record { item = none; place = Refused PastEnd at } ≡ read_at none right means cause w s (At at)
+read_past : {C A : Type 0} (none : A) (right : ℕ → Bool) (means : ℕ → A) (past cause : C) (w : ℕ) (s : List ℕ) (at : ℕ) → field_at s at w ≡ None
+    → record { item = none; place = Refused past at } ≡ read_at none right means past cause w s (At at)
 unfolding read_at judged
-read_past none right means cause w s at e = rw e
+read_past none right means past cause w s at e = rw e
 
-read-wrong : {A : Type 0} (none : A) (right : ℕ → Bool) (means : ℕ → A) (cause : Cause) (w : ℕ) (s : List ℕ) (at v : ℕ) → field_at s at w ≡ Some v → right v ≡ false
-    → record { item = none; place = Refused cause at } ≡ read_at none right means cause w s (At at)
+read-wrong : {C A : Type 0} (none : A) (right : ℕ → Bool) (means : ℕ → A) (past cause : C) (w : ℕ) (s : List ℕ) (at v : ℕ) → field_at s at w ≡ Some v → right v ≡ false
+    → record { item = none; place = Refused cause at } ≡ read_at none right means past cause w s (At at)
 unfolding read_at judged
-read-wrong none right means cause w s at v e f = rw (e, f)
+read-wrong none right means past cause w s at v e f = rw (e, f)
 
-pub read_right : {A : Type 0} (none : A) (right : ℕ → Bool) (means : ℕ → A) (cause : Cause) (w : ℕ) (s : List ℕ) (at v : ℕ) → field_at s at w ≡ Some v → right v ≡ true
-    → record { item = means v; place = At (at + w) } ≡ read_at none right means cause w s (At at)
+pub read_right : {C A : Type 0} (none : A) (right : ℕ → Bool) (means : ℕ → A) (past cause : C) (w : ℕ) (s : List ℕ) (at v : ℕ) → field_at s at w ≡ Some v → right v ≡ true
+    → record { item = means v; place = At (at + w) } ≡ read_at none right means past cause w s (At at)
 unfolding read_at judged
-read_right none right means cause w s at v e f = rw (e, f)
+read_right none right means past cause w s at v e f = rw (e, f)
 
 pub too-low : (lo hi v : ℕ) → v < lo → within lo hi v ≡ false
 too-low lo hi v h = rw (lt-leb lo v h)
@@ -100,26 +100,45 @@ further r spec whole p at v w f e h =
       near = IfOk-weaker r (λ x. x.end ≤ p + v) (λ x. x.end ≤ at + w) (λ x k. omega arith) f.near;
     }
 
-module _ (s : List ℕ) (at w lo hi : ℕ) (cause : Cause) where
-  pub number_past : field_at s at w ≡ None → Number (refused PastEnd at) s at w lo hi cause
-  unfolding number_at
-  number_past e = record { is = ap outcome (read_past 0 (within lo hi) (λ (v : ℕ). v) cause w s at e); near = tt; top = tt }
+-- a value within its limits is the number
+pub number-is : {C : Type 0} (s : List ℕ) (at w lo hi : ℕ) (past cause : C) (v : ℕ) → field_at s at w ≡ Some v → within lo hi v ≡ true
+    → record { item = v; place = At (at + w) } ≡ number_of past s (At at) w lo hi cause
+unfolding number_of
+number-is s at w lo hi past cause v e h = read_right 0 (within lo hi) (λ (v : ℕ). v) past cause w s at v e h
 
-  pub number-wrong : (v : ℕ) → field_at s at w ≡ Some v → within lo hi v ≡ false → Number (refused cause at) s at w lo hi cause
-  unfolding number_at
-  number-wrong v e f = record { is = ap outcome (read-wrong 0 (within lo hi) (λ (v : ℕ). v) cause w s at v e f); near = tt; top = tt }
+-- what the three cases are to one who was asked to read at a bit, in words of his own
+module _ {C R : Type 0} (past : C) (refuse : C → ℕ → R) (s : List ℕ) (given : Result ℕ R) (at : ℕ) (g : given ≡ Ok at) (w lo hi : ℕ) (cause : C) where
+  pub number_past : field_at s at w ≡ None → NumberOf past refuse (Err (refuse past at)) s given w lo hi cause
+  unfolding number_of
+  number_past e = rw g (record { is = ap (answered refuse) (read_past 0 (within lo hi) (λ (v : ℕ). v) past cause w s at e); near = tt; top = tt })
 
-  pub number-is : (v : ℕ) → field_at s at w ≡ Some v → within lo hi v ≡ true → record { item = v; place = At (at + w) } ≡ number_at s (At at) w lo hi cause
-  unfolding number_at
-  number-is v e h = read_right 0 (within lo hi) (λ (v : ℕ). v) cause w s at v e h
+  pub number-wrong : (v : ℕ) → field_at s at w ≡ Some v → within lo hi v ≡ false → NumberOf past refuse (Err (refuse cause at)) s given w lo hi cause
+  unfolding number_of
+  number-wrong v e f = rw g (record { is = ap (answered refuse) (read-wrong 0 (within lo hi) (λ (v : ℕ). v) past cause w s at v e f); near = tt; top = tt })
 
-  pub number-right : (v : ℕ) → field_at s at w ≡ Some v → within lo hi v ≡ true → Number (Ok (record { item = v; end = at + w })) s at w lo hi cause
-  number-right v e h = record { is = ap outcome (number-is v e h); near = omega arith; top = (within_in lo hi v h).1 }
+  pub number-right : (v : ℕ) → field_at s at w ≡ Some v → within lo hi v ≡ true → NumberOf past refuse (Ok (record { item = v; end = at + w })) s given w lo hi cause
+  number-right v e h = rw g (record { is = ap (answered refuse) (number-is s at w lo hi past cause v e h); near = omega arith; top = (within_in lo hi v h).1 })
+
+-- the answer of a number in other words is that of the number in those words
+pub stated_number : {C R : Type 0} (says : Cause → C) (refuse : C → ℕ → R) (s : List ℕ) (at w lo hi : ℕ) (cause : Cause)
+    → stated says refuse (outcome (number_at s (At at) w lo hi cause)) ≡ answered refuse (number_of (says PastEnd) s (At at) w lo hi (says cause))
+unfolding number_of read_at judged
+stated_number says refuse s at w lo hi cause = by (field_at s at w)
+  where
+    picked : (v : ℕ) (b : Bool) → stated says refuse (outcome (cond {A = Read ℕ} b (record { item = v; place = At (at + w) }) (record { item = 0; place = Refused cause at })))
+        ≡ answered refuse (cond b (record { item = v; place = At (at + w) }) (record { item = 0; place = Refused (says cause) at }))
+    picked v true = refl
+    picked v false = refl
+
+    by : (x : Option ℕ) → stated says refuse (outcome (judged 0 (within lo hi) (λ (v : ℕ). v) PastEnd cause w at x))
+        ≡ answered refuse (judged 0 (within lo hi) (λ (v : ℕ). v) (says PastEnd) (says cause) w at x)
+    by (Some v) = picked v (within lo hi v)
+    by None = refl
 
 module _ (s : List ℕ) (at w limit m : ℕ) (e : m ≡ 2 ^ w) where
   pub signed-past : field_at s at w ≡ None → Found (refused PastEnd at) (signed_at s (At at) w limit) at w
   unfolding signed_at
-  signed-past f = record { is = ap outcome (read_past (pos 0) (λ (v : ℕ). at_most limit (signed_of (2 ^ w) v)) (signed_of (2 ^ w)) PastLimits w s at f); near = tt }
+  signed-past f = record { is = ap outcome (read_past (pos 0) (λ (v : ℕ). at_most limit (signed_of (2 ^ w) v)) (signed_of (2 ^ w)) PastEnd PastLimits w s at f); near = tt }
 
   pub signed-far : (v n : ℕ) → field_at s at w ≡ Some v → n ≡ nat_abs (signed_of m v) → limit < n → Found (refused PastLimits at) (signed_at s (At at) w limit) at w
   unfolding signed_at
@@ -127,7 +146,7 @@ module _ (s : List ℕ) (at w limit m : ℕ) (e : m ≡ 2 ^ w) where
       let k : limit < nat_abs (signed_of (2 ^ w) v) = rw (← e, ← g) h in
       record {
         is = ap outcome
-            (read-wrong (pos 0) (λ (v : ℕ). at_most limit (signed_of (2 ^ w) v)) (signed_of (2 ^ w)) PastLimits w s at v f
+            (read-wrong (pos 0) (λ (v : ℕ). at_most limit (signed_of (2 ^ w) v)) (signed_of (2 ^ w)) PastEnd PastLimits w s at v f
             (lt-leb (nat_abs (signed_of (2 ^ w) v)) limit k));
         near = tt;
       }
@@ -141,7 +160,7 @@ module _ (s : List ℕ) (at w limit m : ℕ) (e : m ≡ 2 ^ w) where
       record {
         is = rw (same16 z j, y)
             (ap outcome
-            (read_right (pos 0) (λ (v : ℕ). at_most limit (signed_of (2 ^ w) v)) (signed_of (2 ^ w)) PastLimits w s at v f
+            (read_right (pos 0) (λ (v : ℕ). at_most limit (signed_of (2 ^ w) v)) (signed_of (2 ^ w)) PastEnd PastLimits w s at v f
             (le-leb (nat_abs (signed_of (2 ^ w) v)) limit k)));
         near = omega arith;
       }
@@ -153,110 +172,112 @@ module _ (s : List ℕ) (at w limit m : ℕ) (e : m ≡ 2 ^ w) where
   pub full-small : w ≤ 15 → m ≤ 32768
   full-small h = omega (arith, pow_mono {j = 15} h)
 
-unmeant-in : (p q : Place) (c : Cause) (b : ℕ) → q ≡ Refused c b → unmeant p q ≡ Refused c b
-unfolding unmeant
-unmeant-in p q c b e = rw e
+untaken-in : {C : Type 0} (cause : C) (p q : PlaceOf C) (c : C) (b : ℕ) → q ≡ Refused c b → untaken cause p q ≡ Refused c b
+unfolding untaken
+untaken-in cause p q c b e = rw e
 
--- A code is read whole, from 0 to top, and then matched: the matched values are the number from lo to hi, the others refusal 2.
+-- A code is read whole, from 0 to top, and then matched: the matched values are the number from lo to hi, the others refused for the same cause.
 over-top : (top v : ℕ) → within 0 top v ≡ false → top < v
 over-top top v h = leb-false v top (rw (le-leb 0 v (omega arith)) at h)
 
-module _ (lo hi top w at v : ℕ) (h : hi ≤ top) where
-  abbrev good : Read ℕ
+module _ {C : Type 0} (cause : C) (lo hi top w at v : ℕ) (h : hi ≤ top) where
+  abbrev good : ReadOf C ℕ
   good = record { item = v; place = At (at + w) }
 
-  abbrev bad : Read ℕ
-  bad = record { item = 0; place = Refused NoMeaning at }
+  abbrev bad : ReadOf C ℕ
+  bad = record { item = 0; place = Refused cause at }
 
   picked-right : (b : Bool) → within 0 top v ≡ b → within lo hi (cond b good bad).item ≡ true → cond b good bad ≡ cond (within lo hi v) good bad
   picked-right true i j = rw j
   picked-right false i j = rw (too-high lo hi v (omega (arith, over-top top v i)))
 
   picked-wrong : (b : Bool) → within 0 top v ≡ b → within lo hi (cond b good bad).item ≡ false
-      → record { item = 0; place = unmeant (At at) (cond b good bad).place } ≡ cond (within lo hi v) good bad
-  unfolding unmeant
+      → record { item = 0; place = untaken cause (At at) (cond b good bad).place } ≡ cond (within lo hi v) good bad
+  unfolding untaken
   picked-wrong true i j = rw j
   picked-wrong false i j = rw (too-high lo hi v (omega (arith, over-top top v i)))
 
-module _ (s : List ℕ) (w lo hi top : ℕ) (h : hi ≤ top) where
-  judged-right : (at : ℕ) (f : Option ℕ) → within lo hi (judged 0 (within 0 top) (λ (v : ℕ). v) NoMeaning w at f).item ≡ true
-      → judged 0 (within 0 top) (λ (v : ℕ). v) NoMeaning w at f ≡ judged 0 (within lo hi) (λ (v : ℕ). v) NoMeaning w at f
+module _ {C : Type 0} (past cause : C) (s : List ℕ) (w lo hi top : ℕ) (h : hi ≤ top) where
+  judged-right : (at : ℕ) (f : Option ℕ) → within lo hi (judged 0 (within 0 top) (λ (v : ℕ). v) past cause w at f).item ≡ true
+      → judged 0 (within 0 top) (λ (v : ℕ). v) past cause w at f ≡ judged 0 (within lo hi) (λ (v : ℕ). v) past cause w at f
   unfolding judged
   judged-right at None k = refl
-  judged-right at (Some v) k = picked-right lo hi top w at v h (within 0 top v) refl k
+  judged-right at (Some v) k = picked-right cause lo hi top w at v h (within 0 top v) refl k
 
-  judged-wrong : (at : ℕ) (f : Option ℕ) → within lo hi (judged 0 (within 0 top) (λ (v : ℕ). v) NoMeaning w at f).item ≡ false
-      → record { item = 0; place = unmeant (At at) (judged 0 (within 0 top) (λ (v : ℕ). v) NoMeaning w at f).place } ≡ judged 0 (within lo hi) (λ (v : ℕ). v) NoMeaning w at f
-  unfolding judged unmeant
+  judged-wrong : (at : ℕ) (f : Option ℕ) → within lo hi (judged 0 (within 0 top) (λ (v : ℕ). v) past cause w at f).item ≡ false
+      → record { item = 0; place = untaken cause (At at) (judged 0 (within 0 top) (λ (v : ℕ). v) past cause w at f).place } ≡ judged 0 (within lo hi) (λ (v : ℕ). v) past cause w at f
+  unfolding judged untaken
   judged-wrong at None k = refl
-  judged-wrong at (Some v) k = picked-wrong lo hi top w at v h (within 0 top v) refl k
+  judged-wrong at (Some v) k = picked-wrong cause lo hi top w at v h (within 0 top v) refl k
 
-  at_right : (p : Place) → within lo hi (number_at s p w 0 top NoMeaning).item ≡ true → number_at s p w 0 top NoMeaning ≡ number_at s p w lo hi NoMeaning
-  unfolding number_at read_at
+  at_right : (p : PlaceOf C) → within lo hi (number_of past s p w 0 top cause).item ≡ true → number_of past s p w 0 top cause ≡ number_of past s p w lo hi cause
+  unfolding number_of read_at
   at_right (At at) k = judged-right at (field_at s at w) k
   at_right (Refused c b) k = refl
 
-  at-wrong : (p : Place) → within lo hi (number_at s p w 0 top NoMeaning).item ≡ false
-      → record { item = 0; place = unmeant p (number_at s p w 0 top NoMeaning).place } ≡ number_at s p w lo hi NoMeaning
-  unfolding number_at read_at unmeant
+  at-wrong : (p : PlaceOf C) → within lo hi (number_of past s p w 0 top cause).item ≡ false
+      → record { item = 0; place = untaken cause p (number_of past s p w 0 top cause).place } ≡ number_of past s p w lo hi cause
+  unfolding number_of read_at untaken
   at-wrong (At at) k = judged-wrong at (field_at s at w) k
   at-wrong (Refused c b) k = refl
 
-  pub code-right : (p : Place) (t : Read ℕ) → t ≡ number_at s p w 0 top NoMeaning → within lo hi t.item ≡ true → t ≡ number_at s p w lo hi NoMeaning
+  pub code-right : (p : PlaceOf C) (t : ReadOf C ℕ) → t ≡ number_of past s p w 0 top cause → within lo hi t.item ≡ true → t ≡ number_of past s p w lo hi cause
   code-right p t e k = e ∙ at_right p (rw e at k)
 
-  pub code-wrong : (p : Place) (t : Read ℕ) → t ≡ number_at s p w 0 top NoMeaning → within lo hi t.item ≡ false → record { item = 0; place = unmeant p t.place } ≡ number_at s p w lo hi NoMeaning
+  pub code-wrong : (p : PlaceOf C) (t : ReadOf C ℕ) → t ≡ number_of past s p w 0 top cause → within lo hi t.item ≡ false → record { item = 0; place = untaken cause p t.place } ≡ number_of past s p w lo hi cause
   code-wrong p t e k = rw e (at-wrong p (rw e at k))
 
   -- what is refused before the match stays refused
-  pub code-left : (p : Place) (t : Read ℕ) (c : Cause) (b : ℕ) → t ≡ number_at s p w 0 top NoMeaning → t.place ≡ Refused c b → (number_at s p w lo hi NoMeaning).place ≡ Refused c b
+  pub code-left : (p : PlaceOf C) (t : ReadOf C ℕ) (c : C) (b : ℕ) → t ≡ number_of past s p w 0 top cause → t.place ≡ Refused c b → (number_of past s p w lo hi cause).place ≡ Refused c b
   code-left p t c b e f = by (within lo hi t.item) refl
     where
-      by : (x : Bool) → within lo hi t.item ≡ x → (number_at s p w lo hi NoMeaning).place ≡ Refused c b
+      by : (x : Bool) → within lo hi t.item ≡ x → (number_of past s p w lo hi cause).place ≡ Refused c b
       by true k = rw (← code-right p t e k) f
-      by false k = rw (← code-wrong p t e k) (unmeant-in p t.place c b f)
+      by false k = rw (← code-wrong p t e k) (untaken-in cause p t.place c b f)
 
-  -- the same as an answer
+-- The same as an answer.
+module _ (s : List ℕ) (w lo hi top : ℕ) (h : hi ≤ top) where
   pub coded : (at : ℕ) (r : Reading ℕ) → Number (Ok r) s at w 0 top NoMeaning → lo ≤ r.item → r.item ≤ hi → Number (Ok r) s at w lo hi NoMeaning
-  coded at r n k l = record { is = ap outcome (code-right (At at) _ (read_is r _ n.is) (in-range lo hi r.item k l)); near = n.near; top = l }
+  coded at r n k l = record { is = ap outcome (code-right PastEnd NoMeaning s w lo hi top h (At at) _ (read_is r _ n.is) (in-range lo hi r.item k l)); near = n.near; top = l }
 
   pub uncoded : (at : ℕ) (r : Reading ℕ) → Number (Ok r) s at w 0 top NoMeaning → within lo hi r.item ≡ false → Number (refused NoMeaning at) s at w lo hi NoMeaning
-  unfolding unmeant
-  uncoded at r n k = record { is = ap outcome (code-wrong (At at) _ (read_is r _ n.is) k); near = tt; top = tt }
+  unfolding untaken
+  uncoded at r n k = record { is = ap outcome (code-wrong PastEnd NoMeaning s w lo hi top h (At at) _ (read_is r _ n.is) k); near = tt; top = tt }
 
   pub no-code : (at : ℕ) (e : Refusal) → Number (Err e) s at w 0 top NoMeaning → Number (Err e) s at w lo hi NoMeaning
-  no-code at e n = record { is = refusal-is e _ (code-left (At at) _ e.cause e.place refl (refused-is e _ n.is)); near = tt; top = tt }
+  no-code at e n = record { is = refusal-is e _ (code-left PastEnd NoMeaning s w lo hi top h (At at) _ e.cause e.place refl (refused-is e _ n.is)); near = tt; top = tt }
 
 -- A reading that keeps a refusal.
 abbrev pub Stays : {A : Type 0} → (Place → Read A) → Type 0
 Stays f = (c : Cause) (b : ℕ) → (f (Refused c b)).place ≡ Refused c b
 
 -- A tag is matched so: each form by its number, and the first form at the refused place where no arm takes it.
-module _ {A : Type 0} (form : ℕ → Place → Read A) (s : List ℕ) (w hi top : ℕ) (h : hi ≤ top) (p : Place) (t : Read ℕ) (e : t ≡ number_at s p w 0 top NoMeaning) where
-  pub tag-right : (n : ℕ) → t.item ≡ n → n ≤ hi → form n t.place ≡ form (number_at s p w 0 hi NoMeaning).item (number_at s p w 0 hi NoMeaning).place
+module _ {C A : Type 0} (past cause : C) (form : ℕ → PlaceOf C → ReadOf C A) (s : List ℕ) (w hi top : ℕ) (h : hi ≤ top) (p : PlaceOf C) (t : ReadOf C ℕ)
+    (e : t ≡ number_of past s p w 0 top cause) where
+  pub tag-right : (n : ℕ) → t.item ≡ n → n ≤ hi → form n t.place ≡ form (number_of past s p w 0 hi cause).item (number_of past s p w 0 hi cause).place
   tag-right n f k =
-      let g : t ≡ number_at s p w 0 hi NoMeaning = code-right s w 0 hi top h p t e (in-range 0 hi t.item (omega arith) (omega arith)) in
+      let g : t ≡ number_of past s p w 0 hi cause = code-right past cause s w 0 hi top h p t e (in-range 0 hi t.item (omega arith) (omega arith)) in
       rw (← g, f)
 
-  pub tag-wrong : (q : Place) → q ≡ unmeant p t.place → hi < t.item → form 0 q ≡ form (number_at s p w 0 hi NoMeaning).item (number_at s p w 0 hi NoMeaning).place
-  tag-wrong q f k = rw (f, ← code-wrong s w 0 hi top h p t e (too-high 0 hi t.item k))
+  pub tag-wrong : (q : PlaceOf C) → q ≡ untaken cause p t.place → hi < t.item → form 0 q ≡ form (number_of past s p w 0 hi cause).item (number_of past s p w 0 hi cause).place
+  tag-wrong q f k = rw (f, ← code-wrong past cause s w 0 hi top h p t e (too-high 0 hi t.item k))
 
 -- The same of an answer: a number without a form, and a tag that is refused, are refused in any form.
 module _ {A : Type 0} (form : ℕ → Place → Read A) (s : List ℕ) (w hi top : ℕ) (h : hi ≤ top) (at : ℕ) where
   pub tag-read : (r : Reading ℕ) → Number (Ok r) s at w 0 top NoMeaning → (n : ℕ) → r.item ≡ n → n ≤ hi
       → form n (At r.end) ≡ form (number_at s (At at) w 0 hi NoMeaning).item (number_at s (At at) w 0 hi NoMeaning).place
-  tag-read r t n f k = tag-right form s w hi top h (At at) _ (read_is r _ t.is) n f k
+  tag-read r t n f k = tag-right PastEnd NoMeaning form s w hi top h (At at) _ (read_is r _ t.is) n f k
 
   pub tag-refused : ((n : ℕ) → Stays (form n)) → (r : Reading ℕ) → Number (Ok r) s at w 0 top NoMeaning → hi < r.item
       → (form (number_at s (At at) w 0 hi NoMeaning).item (number_at s (At at) w 0 hi NoMeaning).place).place ≡ Refused NoMeaning at
-  unfolding unmeant
+  unfolding untaken
   tag-refused stays r t k =
-      let g = tag-wrong form s w hi top h (At at) _ (read_is r _ t.is) (Refused NoMeaning at) refl k in
+      let g = tag-wrong PastEnd NoMeaning form s w hi top h (At at) _ (read_is r _ t.is) (Refused NoMeaning at) refl k in
       rw (← g) (stays 0 NoMeaning at)
 
   pub no-tag : ((n : ℕ) → Stays (form n)) → (e : Refusal) → Number (Err e) s at w 0 top NoMeaning
       → (form (number_at s (At at) w 0 hi NoMeaning).item (number_at s (At at) w 0 hi NoMeaning).place).place ≡ Refused e.cause e.place
-  no-tag stays e t = rw (code-left s w 0 hi top h (At at) _ e.cause e.place refl (refused-is e _ t.is)) (stays _ e.cause e.place)
+  no-tag stays e t = rw (code-left PastEnd NoMeaning s w 0 hi top h (At at) _ e.cause e.place refl (refused-is e _ t.is)) (stays _ e.cause e.place)
 
 -- a place that is not refused
 abbrev pub AtBit : Place → Type 0
@@ -275,19 +296,19 @@ module _ {A : Type 0} (none : A) (right : ℕ → Bool) (means : ℕ → A) (cau
   picked-in at v l true e k = f v l e
   picked-in at v l false e k = absurd k.is
 
-  judged-in : (at : ℕ) (x : Option ℕ) → field_at s at w ≡ x → Stands (judged none right means cause w at x).place → P (judged none right means cause w at x).item
+  judged-in : (at : ℕ) (x : Option ℕ) → field_at s at w ≡ x → Stands (judged none right means PastEnd cause w at x).place → P (judged none right means PastEnd cause w at x).item
   unfolding judged
   judged-in at (Some v) e k = picked-in at v (value-lt s at w v e) (right v) refl k
   judged-in at None e k = absurd k.is
 
-  accepted : (p : Place) → Stands (read_at none right means cause w s p).place → Stands p × P (read_at none right means cause w s p).item
+  accepted : (p : Place) → Stands (read_at none right means PastEnd cause w s p).place → Stands p × P (read_at none right means PastEnd cause w s p).item
   unfolding read_at
   accepted (At at) k = (record { is = tt }, judged-in at (field_at s at w) refl k)
   accepted (Refused c b) k = absurd k.is
 
 pub number_in : (s : List ℕ) (p : Place) (w lo hi : ℕ) (cause : Cause) → Stands (number_at s p w lo hi cause).place
     → Stands p × ((lo ≤ (number_at s p w lo hi cause).item) × ((number_at s p w lo hi cause).item ≤ hi))
-unfolding number_at
+unfolding number_of
 number_in s p w lo hi cause =
     accepted 0 (within lo hi) (λ (v : ℕ). v) cause w s (λ (v : ℕ). (lo ≤ v) × (v ≤ hi)) (λ (v : ℕ) (l : v < 2 ^ w) (e : within lo hi v ≡ true). within_in lo hi v e) p
 

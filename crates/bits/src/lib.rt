@@ -2,11 +2,15 @@
 #![tactic(auto)]
 
 ghost use Rattle.std.specs.Prelude.{◌≡◌, ◌+◌, ◌-◌, ◌*◌, ◌/◌, ◌%◌, ◌≤◌, ◌<◌, ◌^◌, length, nat_abs};
+ghost use Rattle.refusals.specs.declared.Cause.TheVariants.{PastEnd};
 ghost use Rattle.bits.specs.Bits.{bits, field_at, ahead_of};
-ghost use Rattle.bits.specs.Place.{At, within, signed_at, Found, Number};
+ghost use Rattle.bits.specs.Place.{At, within, signed_at, bit_of, Found, FoundFrom, NumberOf};
 ghost use Rattle.bits.specs.Signed.{signed_of};
 
+pub mod standing;
+
 use refusals::{Cause, Refusal};
+use standing::{Place, Refuses};
 
 // What was read, and the bit behind it.
 #[derive(Clone, Copy)]
@@ -103,26 +107,24 @@ pub fn read(image: &[u8], at: usize, width: usize) -> Option<u32>
     last_field(image, at, width)
 }
 
-// A number of width bits at a bit, from low to high; another is refused for the cause given.
-pub fn number(
+// A number of width bits, from low to high; another is refused for the cause given.
+pub fn number<P: Place>(
     image: &[u8],
-    at: usize,
+    at: P,
     width: usize,
     low: u32,
     high: u32,
-    cause: Cause,
-) -> Result<Reading<u32>, Refusal>
-    requires { (1 ≤ width) × (width ≤ 32) × (at < 2 ^ 32) }
-    ensures { Number result image.now at width low high cause }
+    cause: <P::Refusal as Refuses>::Cause,
+) -> Result<Reading<u32>, P::Refusal>
+    requires { (1 ≤ width) × (width ≤ 32) × (bit_of (P.given at) < 2 ^ 32) }
+    ensures { NumberOf (P.Refusal.says PastEnd) P.Refusal.refuses result image.now (P.given at) width low high cause }
 {
+    let at = at.bit()?;
     let Some(item) = read(image, at, width) else {
-        return Err(Refusal {
-            cause: Cause::PastEnd,
-            place: at,
-        });
+        return Err(P::Refusal::refuse(P::Refusal::say(Cause::PastEnd), at));
     };
     if !between(u64::from(item), u64::from(low), u64::from(high)) {
-        return Err(Refusal { cause, place: at });
+        return Err(P::Refusal::refuse(cause, at));
     }
     Ok(Reading {
         item,
@@ -151,7 +153,7 @@ pub fn magnitude(v: u32, full: u32) -> u32
 }
 
 // A signed number at a bit, at most limit from 0.
-pub fn signed_number(
+fn signed_from(
     image: &[u8],
     at: usize,
     width: usize,
@@ -177,4 +179,18 @@ pub fn signed_number(
         item: extend(v, full),
         end: at + width,
     })
+}
+
+// A signed number, at most limit from 0.
+pub fn signed_number<P: Place>(
+    image: &[u8],
+    at: P,
+    width: usize,
+    full: u32,
+    limit: u32,
+) -> Result<Reading<i16>, P::Refusal>
+    requires { (1 ≤ width) × (width ≤ 15) × (bit_of (P.given at) < 2 ^ 32) × (full ≡ 2 ^ width) }
+    ensures { FoundFrom P.Refusal.says P.Refusal.refuses result (P.given at) (λ p. signed_at image.now p width limit) width }
+{
+    P::Refusal::state(signed_from(image, at.bit()?, width, full, limit))
 }

@@ -16,7 +16,7 @@ use Rattle.std.specs.Prelude.{Option, Some, None}
 use Rattle.refusals.specs.declared.Cause.{Cause}
 use Rattle.refusals.specs.declared.Cause.TheVariants.{PastEnd, NoMeaning, PastLimits, NotEnded, BadHolidays, BadEvent, NoDate, TooManyRanges, NoRoom, BadSchedule}
 use Rattle.refusals.specs.Numbers as refusals
-use Rattle.bits.specs.Place.{Place, At, Refused, Read, judged, read_at, within, at_most, number_at, signed_at}
+use Rattle.bits.specs.Place.{Place, At, Refused, Read, judged, read_at, within, at_most, number_of, number_at, signed_at}
 use Rattle.rule_items.specs.Codes.{operator_at}
 use Rattle.rule_items.specs.Years.{year_at, week_at}
 use Rattle.rule_items.specs.Dates.{flagged_year, fixed_date, nth_date, easter_date, date_form, date_at, date_offset, months_form, year_months_form, dates_form, monthday_form, monthday_at}
@@ -64,12 +64,12 @@ module _ {A : Type 0} (none : A) (right : ℕ → Bool) (means : ℕ → A) (cau
   picked at v true = record { near = omega arith; named = λ _. tt }
   picked at v false = record { near = omega arith; named = λ _. (some cause, h) }
 
-  of_field : (at : ℕ) (x : Option ℕ) → Step w (At at) (judged none right means cause w at x).place
+  of_field : (at : ℕ) (x : Option ℕ) → Step w (At at) (judged none right means PastEnd cause w at x).place
   unfolding judged
   of_field at (Some v) = picked at v (right v)
   of_field at None = record { near = omega arith; named = λ _. (omega arith, omega arith) }
 
-  of-read : (p : Place) → Step w p (read_at none right means cause w s p).place
+  of-read : (p : Place) → Step w p (read_at none right means PastEnd cause w s p).place
   unfolding read_at
   of-read (At at) = of_field at (field_at s at w)
   of-read (Refused c b) = record { near = omega arith; named = λ k. k }
@@ -80,7 +80,7 @@ Takes k f = (p : Place) → Step k p (f p).place
 
 module _ (s : List ℕ) where
   number : (w lo hi : ℕ) (cause : Cause) → refusals.number cause ≤ 4 → (p : Place) → Step w p (number_at s p w lo hi cause).place
-  unfolding number_at
+  unfolding number_of
   number w lo hi cause h p = of-read 0 (within lo hi) (λ (v : ℕ). v) cause w s h p
 
   by2 : (w lo hi : ℕ) (p : Place) → Step w p (number_at s p w lo hi NoMeaning).place
@@ -225,13 +225,13 @@ module _ (lo hi : ℕ) (cause : Cause) (w : ℕ) (s : List ℕ) where
   low-pick at v true e = right-top lo hi v e
   low-pick at v false e = omega arith
 
-  low_field : (at : ℕ) (x : Option ℕ) → (judged 0 (within lo hi) (λ (v : ℕ). v) cause w at x).item ≤ hi
+  low_field : (at : ℕ) (x : Option ℕ) → (judged 0 (within lo hi) (λ (v : ℕ). v) PastEnd cause w at x).item ≤ hi
   unfolding judged
   low_field at (Some v) = low-pick at v (within lo hi v) refl
   low_field at None = omega arith
 
   low : (p : Place) → (number_at s p w lo hi cause).item ≤ hi
-  unfolding number_at read_at
+  unfolding number_of read_at
   low (At at) = low_field at (field_at s at w)
   low (Refused n b) = omega arith
 

@@ -15,7 +15,7 @@ use Rattle.std.specs.Prelude.{Result, Ok, Err, IsErrAnd}
 use Rattle.std.proofs.lemmas.Result.{err_from_is_err_and}
 use Rattle.refusals.specs.declared.Refusal.{Refusal}
 use Rattle.bits.specs.declared.Reading.{Reading}
-use Rattle.bits.specs.Place.{Number, outcome, read_at, Place, At, Refused, Read, within, number_at}
+use Rattle.bits.specs.Place.{Number, outcome, read_at, Place, At, Refused, Read, within, number_of, number_at}
 use Rattle.rules.specs.Nothing.{no_rule}
 use Rattle.rules.specs.declared.Rule.{Rule}
 use Rattle.rules.specs.declared.Sheet.{Sheet}
@@ -51,7 +51,7 @@ sheet-made s h r f g = rw (g, f)
 
 -- a refusal among the fill bits stays to their end
 fill_next : (s : List ℕ) (p : Place) (n : ℕ) (c : Cause) (b : ℕ) → fill_bits s p n ≡ Refused c b → fill_bits s p (suc n) ≡ Refused c b
-unfolding fill_bits number_at read_at
+unfolding fill_bits number_of read_at
 fill_next s p n c b e = rw (fill_bits, e) refl
 
 fill_left : (s : List ℕ) (p : Place) (k n : ℕ) (c : Cause) (b : ℕ) → fill_bits s p k ≡ Refused c b → fill_bits s p (n + k) ≡ Refused c b

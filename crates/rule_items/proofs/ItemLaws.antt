@@ -9,7 +9,7 @@ use lib.Signed.{mag}
 use mir.Syntax.{w16}
 use mir.Val.{to_z, of_z}
 use Rattle.refusals.specs.declared.Cause.TheVariants.{NoMeaning, PastLimits}
-use Rattle.bits.specs.Place.{Place, Read, number_at, signed_at}
+use Rattle.bits.specs.Place.{Place, Read, number_of, number_at, signed_at}
 use Rattle.bits.specs.Place.{read_at, Number}
 use Rattle.bits.proofs.SignLaws.{same16}
 use Rattle.bits.proofs.ReadLaws.{Stays, coded}
@@ -42,25 +42,25 @@ weekday_kept s at r n h = coded s 3 0 6 7 (omega arith) at r n (omega arith) h
 -- A refused reading reads nothing more: each item stays refused, by its form where it has forms.
 module _ (s : List ℕ) where
   pub year-stays : Stays (year_at s)
-  unfolding year_at number_at read_at
+  unfolding year_at number_of read_at
   year-stays c b = refl
 
   pub week-stays : Stays (week_at s)
-  unfolding week_at number_at read_at
+  unfolding week_at number_of read_at
   week-stays c b = refl
 
   pub fixed-date-stays : Stays (fixed_date s)
-  unfolding fixed_date flagged_year number_at read_at
+  unfolding fixed_date flagged_year number_of read_at
   fixed-date-stays c b = refl
 
   pub date-form-stays : (n : ℕ) → Stays (date_form s n)
-  unfolding nth_date easter_date flagged_year number_at signed_at read_at
+  unfolding nth_date easter_date flagged_year number_of signed_at read_at
   date-form-stays zero c b = fixed-date-stays c b
   date-form-stays (suc zero) c b = refl
   date-form-stays (suc (suc n)) c b = refl
 
   pub date-stays : Stays (date_at s)
-  unfolding date_at number_at read_at
+  unfolding date_at number_of read_at
   date-stays c b = fixed-date-stays c b
 
   pub offset-stays : (edition : ℕ) → Stays (date_offset s edition)
@@ -68,35 +68,35 @@ module _ (s : List ℕ) where
   offset-stays edition c b = rw (date-stays c b) refl
 
   pub months-stays : Stays (months_form s)
-  unfolding months_form number_at read_at
+  unfolding months_form number_of read_at
   months-stays c b = refl
 
   pub monthday-form-stays : (edition n : ℕ) → Stays (monthday_form s edition n)
-  unfolding year_months_form dates_form number_at read_at
+  unfolding year_months_form dates_form number_of read_at
   monthday-form-stays edition zero c b = months-stays c b
   monthday-form-stays edition (suc zero) c b = refl
   monthday-form-stays edition (suc (suc n)) c b = rw (offset-stays edition c b) (offset-stays edition c b)
 
   pub monthday-stays : (edition : ℕ) → Stays (monthday_at s edition)
-  unfolding monthday_at number_at read_at
+  unfolding monthday_at number_of read_at
   monthday-stays edition c b = months-stays c b
 
   pub weekday-form-stays : (n : ℕ) → Stays (weekday_form s n)
-  unfolding fixed_weekdays holiday_form number_at signed_at read_at
+  unfolding fixed_weekdays holiday_form number_of signed_at read_at
   weekday-form-stays zero c b = refl
   weekday-form-stays (suc n) c b = refl
 
   pub weekday-item-stays : Stays (weekday_item_at s)
-  unfolding weekday_item_at fixed_weekdays number_at signed_at read_at
+  unfolding weekday_item_at fixed_weekdays number_of signed_at read_at
   weekday-item-stays c b = refl
 
   pub time-form-stays : (n : ℕ) → Stays (time_form s n)
-  unfolding fixed_time variable_time number_at signed_at read_at
+  unfolding fixed_time variable_time number_of signed_at read_at
   time-form-stays zero c b = refl
   time-form-stays (suc n) c b = refl
 
   pub time-stays : Stays (time_at s)
-  unfolding time_at fixed_time number_at read_at
+  unfolding time_at fixed_time number_of read_at
   time-stays c b = refl
 
   pub span-stays : Stays (span_at s)

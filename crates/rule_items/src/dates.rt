@@ -1,10 +1,11 @@
 // Dates, dates with an offset, and monthday items.
 ghost use Rattle.std.specs.Prelude.{◌<◌, ◌^◌, IfOk};
-ghost use Rattle.bits.specs.Place.{At, Found};
+ghost use Rattle.bits.specs.Place.{At, bit_of, Found, FoundFrom};
 ghost use Rattle.rule_items.specs.Dates.{flagged_year, fixed_date, nth_date, easter_date, date_at};
 ghost use Rattle.rule_items.specs.Dates.{date_offset, months_form, year_months_form, dates_form, monthday_at};
 
 use bits::Reading;
+use bits::standing::{Place, Refuses};
 use refusals::{Cause, Refusal};
 use rules::{Date, DateOffset, Monthday, MonthdayItem};
 
@@ -42,7 +43,7 @@ fn nth_date(image: &[u8], at: usize) -> Result<Reading<Date>, Refusal>
 {
     let year = flagged_year(image, at)?;
     let month = bits::number(image, year.end, 4, 1, 12, Cause::PastLimits)?;
-    let weekday = crate::codes::weekday(image, month.end)?;
+    let weekday = crate::codes::weekday_from(image, month.end)?;
     let nth = bits::signed_number(image, weekday.end, 4, 16, 8)?;
     Ok(Reading {
         item: Date::Weekday {
@@ -68,7 +69,7 @@ fn easter_date(image: &[u8], at: usize) -> Result<Reading<Date>, Refusal>
     })
 }
 
-pub fn date(image: &[u8], at: usize) -> Result<Reading<Date>, Refusal>
+fn date_from(image: &[u8], at: usize) -> Result<Reading<Date>, Refusal>
     requires { at < 2 ^ 29 }
     ensures { Found result (date_at image.now (At at)) at 28 }
 {
@@ -84,12 +85,19 @@ pub fn date(image: &[u8], at: usize) -> Result<Reading<Date>, Refusal>
     }
 }
 
+pub fn date<P: Place>(image: &[u8], at: P) -> Result<Reading<Date>, P::Refusal>
+    requires { bit_of (P.given at) < 2 ^ 29 }
+    ensures { FoundFrom P.Refusal.says P.Refusal.refuses result (P.given at) (date_at image.now) 28 }
+{
+    P::Refusal::state(date_from(image, at.bit()?))
+}
+
 // The edition decides what stands behind the offset: in edition 1 nothing.
-pub fn date_offset(image: &[u8], at: usize, edition: u32) -> Result<Reading<DateOffset>, Refusal>
+fn date_offset_from(image: &[u8], at: usize, edition: u32) -> Result<Reading<DateOffset>, Refusal>
     requires { at < 2 ^ 28 }
     ensures { Found result (date_offset image.now edition (At at)) at 38 }
 {
-    let date = date(image, at)?;
+    let date = date_from(image, at)?;
     let offset = bits::signed_number(image, date.end, 10, 1024, 366)?;
     Ok(Reading {
         item: DateOffset {
@@ -98,6 +106,17 @@ pub fn date_offset(image: &[u8], at: usize, edition: u32) -> Result<Reading<Date
         },
         end: offset.end,
     })
+}
+
+pub fn date_offset<P: Place>(
+    image: &[u8],
+    at: P,
+    edition: u32,
+) -> Result<Reading<DateOffset>, P::Refusal>
+    requires { bit_of (P.given at) < 2 ^ 28 }
+    ensures { FoundFrom P.Refusal.says P.Refusal.refuses result (P.given at) (date_offset image.now edition) 38 }
+{
+    P::Refusal::state(date_offset_from(image, at.bit()?, edition))
 }
 
 fn months(image: &[u8], at: usize) -> Result<Reading<MonthdayItem>, Refusal>
@@ -140,8 +159,8 @@ fn dates(image: &[u8], at: usize, edition: u32) -> Result<Reading<MonthdayItem>,
     requires { at < 2 ^ 27 }
     ensures { Found result (dates_form image.now edition (At at)) at 76 }
 {
-    let start = date_offset(image, at, edition)?;
-    let end = date_offset(image, start.end, edition)?;
+    let start = date_offset_from(image, at, edition)?;
+    let end = date_offset_from(image, start.end, edition)?;
     Ok(Reading {
         item: MonthdayItem {
             form: Monthday::Dates {
@@ -153,7 +172,7 @@ fn dates(image: &[u8], at: usize, edition: u32) -> Result<Reading<MonthdayItem>,
     })
 }
 
-pub fn monthday(image: &[u8], at: usize, edition: u32) -> Result<Reading<MonthdayItem>, Refusal>
+fn monthday_from(image: &[u8], at: usize, edition: u32) -> Result<Reading<MonthdayItem>, Refusal>
     requires { at < 2 ^ 26 }
     ensures { Found result (monthday_at image.now edition (At at)) at 78 }
 {
@@ -167,4 +186,15 @@ pub fn monthday(image: &[u8], at: usize, edition: u32) -> Result<Reading<Monthda
             place: at,
         }),
     }
+}
+
+pub fn monthday<P: Place>(
+    image: &[u8],
+    at: P,
+    edition: u32,
+) -> Result<Reading<MonthdayItem>, P::Refusal>
+    requires { bit_of (P.given at) < 2 ^ 26 }
+    ensures { FoundFrom P.Refusal.says P.Refusal.refuses result (P.given at) (monthday_at image.now edition) 78 }
+{
+    P::Refusal::state(monthday_from(image, at.bit()?, edition))
 }

@@ -1,4 +1,4 @@
-// Readers of a rule's codes and items. The first refusal is the answer.
+// Readers of a rule's codes and items. The first refusal is the answer; at a place that was refused before nothing is read, and it stays.
 #![tactic(auto)]
 
 pub mod codes;

@@ -1,9 +1,10 @@
 // Spans: two times.
 ghost use Rattle.std.specs.Prelude.{◌<◌, ◌^◌};
-ghost use Rattle.bits.specs.Place.{At, Found};
+ghost use Rattle.bits.specs.Place.{At, bit_of, Found, FoundFrom};
 ghost use Rattle.rule_items.specs.Spans.{fixed_time, variable_time, time_at, span_at};
 
 use bits::Reading;
+use bits::standing::{Place, Refuses};
 use refusals::{Cause, Refusal};
 use rules::{Time, TimeSpan};
 
@@ -44,7 +45,7 @@ fn time(image: &[u8], at: usize) -> Result<Reading<Time>, Refusal>
     }
 }
 
-pub fn span(image: &[u8], at: usize) -> Result<Reading<TimeSpan>, Refusal>
+fn span_from(image: &[u8], at: usize) -> Result<Reading<TimeSpan>, Refusal>
     requires { at < 2 ^ 29 }
     ensures { Found result (span_at image.now (At at)) at 30 }
 {
@@ -57,4 +58,11 @@ pub fn span(image: &[u8], at: usize) -> Result<Reading<TimeSpan>, Refusal>
         },
         end: end.end,
     })
+}
+
+pub fn span<P: Place>(image: &[u8], at: P) -> Result<Reading<TimeSpan>, P::Refusal>
+    requires { bit_of (P.given at) < 2 ^ 29 }
+    ensures { FoundFrom P.Refusal.says P.Refusal.refuses result (P.given at) (span_at image.now) 30 }
+{
+    P::Refusal::state(span_from(image, at.bit()?))
 }

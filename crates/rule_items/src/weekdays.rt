@@ -1,9 +1,10 @@
 // Weekday items.
 ghost use Rattle.std.specs.Prelude.{◌<◌, ◌^◌};
-ghost use Rattle.bits.specs.Place.{At, Found};
+ghost use Rattle.bits.specs.Place.{At, bit_of, Found, FoundFrom};
 ghost use Rattle.rule_items.specs.Weekdays.{fixed_weekdays, holiday_form, weekday_item_at};
 
 use bits::Reading;
+use bits::standing::{Place, Refuses};
 use refusals::{Cause, Refusal};
 use rules::{WeekdayItem, WeekdayRange};
 
@@ -11,8 +12,8 @@ fn fixed_weekdays(image: &[u8], at: usize) -> Result<Reading<WeekdayItem>, Refus
     requires { at < 2 ^ 30 }
     ensures { Found result (fixed_weekdays image.now (At at)) at 26 }
 {
-    let start = crate::codes::weekday(image, at)?;
-    let end = crate::codes::weekday(image, start.end)?;
+    let start = crate::codes::weekday_from(image, at)?;
+    let end = crate::codes::weekday_from(image, start.end)?;
     let from_start = bits::number(image, end.end, 5, 0, 31, Cause::PastLimits)?;
     let from_end = bits::number(image, from_start.end, 5, 0, 31, Cause::PastLimits)?;
     let offset = bits::signed_number(image, from_end.end, 10, 1024, 366)?;
@@ -47,7 +48,7 @@ fn holiday(image: &[u8], at: usize) -> Result<Reading<WeekdayItem>, Refusal>
     })
 }
 
-pub fn weekday_item(image: &[u8], at: usize) -> Result<Reading<WeekdayItem>, Refusal>
+fn weekday_item_from(image: &[u8], at: usize) -> Result<Reading<WeekdayItem>, Refusal>
     requires { at < 2 ^ 29 }
     ensures { Found result (weekday_item_at image.now (At at)) at 27 }
 {
@@ -56,4 +57,11 @@ pub fn weekday_item(image: &[u8], at: usize) -> Result<Reading<WeekdayItem>, Ref
         0 => fixed_weekdays(image, tag.end),
         _ => holiday(image, tag.end),
     }
+}
+
+pub fn weekday_item<P: Place>(image: &[u8], at: P) -> Result<Reading<WeekdayItem>, P::Refusal>
+    requires { bit_of (P.given at) < 2 ^ 29 }
+    ensures { FoundFrom P.Refusal.says P.Refusal.refuses result (P.given at) (weekday_item_at image.now) 27 }
+{
+    P::Refusal::state(weekday_item_from(image, at.bit()?))
 }

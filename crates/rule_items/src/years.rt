@@ -1,13 +1,14 @@
 // Year and week items.
 ghost use Rattle.std.specs.Prelude.{◌<◌, ◌^◌};
-ghost use Rattle.bits.specs.Place.{At, Found};
+ghost use Rattle.bits.specs.Place.{At, bit_of, Found, FoundFrom};
 ghost use Rattle.rule_items.specs.Years.{year_at, week_at};
 
 use bits::Reading;
+use bits::standing::{Place, Refuses};
 use refusals::{Cause, Refusal};
 use rules::{WeekItem, YearItem};
 
-pub fn year(image: &[u8], at: usize) -> Result<Reading<YearItem>, Refusal>
+fn year_from(image: &[u8], at: usize) -> Result<Reading<YearItem>, Refusal>
     requires { at < 2 ^ 31 }
     ensures { Found result (year_at image.now (At at)) at 42 }
 {
@@ -24,7 +25,14 @@ pub fn year(image: &[u8], at: usize) -> Result<Reading<YearItem>, Refusal>
     })
 }
 
-pub fn week(image: &[u8], at: usize) -> Result<Reading<WeekItem>, Refusal>
+pub fn year<P: Place>(image: &[u8], at: P) -> Result<Reading<YearItem>, P::Refusal>
+    requires { bit_of (P.given at) < 2 ^ 31 }
+    ensures { FoundFrom P.Refusal.says P.Refusal.refuses result (P.given at) (year_at image.now) 42 }
+{
+    P::Refusal::state(year_from(image, at.bit()?))
+}
+
+fn week_from(image: &[u8], at: usize) -> Result<Reading<WeekItem>, Refusal>
     requires { at < 2 ^ 31 }
     ensures { Found result (week_at image.now (At at)) at 18 }
 {
@@ -39,4 +47,11 @@ pub fn week(image: &[u8], at: usize) -> Result<Reading<WeekItem>, Refusal>
         },
         end: step.end,
     })
+}
+
+pub fn week<P: Place>(image: &[u8], at: P) -> Result<Reading<WeekItem>, P::Refusal>
+    requires { bit_of (P.given at) < 2 ^ 31 }
+    ensures { FoundFrom P.Refusal.says P.Refusal.refuses result (P.given at) (week_at image.now) 18 }
+{
+    P::Refusal::state(week_from(image, at.bit()?))
 }

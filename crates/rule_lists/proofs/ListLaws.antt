@@ -16,7 +16,7 @@ use Rattle.std.proofs.lemmas.Option.{IfSome_then}
 use Rattle.bits.specs.Bits.{ahead_of}
 use Rattle.bits.specs.declared.Reading.{Reading}
 use Rattle.rule_words.specs.declared.Taken.{Taken}
-use Rattle.bits.specs.Place.{Place, At, Refused, Read, Found, outcome, number_at, read_at}
+use Rattle.bits.specs.Place.{Place, At, Refused, Read, Found, outcome, number_of, number_at, read_at}
 use Rattle.bits.proofs.ReadLaws.{Stays}
 use Rattle.rules.specs.declared.Operator.{Operator}
 use Rattle.rules.specs.declared.YearItem.{YearItem}
@@ -135,7 +135,7 @@ module _ (s : List ℕ) (p : Place) (edition : ℕ) (k : Cause) (b : ℕ) where
   in-years q n m w d t e = in-monthdays _ m w d t (rw e (listed-stays _ (year-stays s) _ n k b))
 
   counts-stay : (q : Place) → q ≡ Refused k b → (counts_at s q).place ≡ Refused k b
-  unfolding counts_at number_at read_at
+  unfolding counts_at number_of read_at
   counts-stay q e = rw e refl
 
   pub head-left : (head_at s p).place ≡ Refused k b → (rule_at s edition p).place ≡ Refused k b
@@ -173,7 +173,7 @@ module _ (s : List ℕ) (p : Place) (edition : ℕ) (k : Cause) (b : ℕ) where
             spans-left ds e6 r = rw (← e1, ← e2, ← e3, ← e4, ← e5, ← e6) r
 
 pub rule-stays : (s : List ℕ) (edition : ℕ) → Stays (rule_at s edition)
-unfolding head_at operator_at number_at read_at
+unfolding head_at operator_at number_of read_at
 rule-stays s edition c b = head-left s (Refused c b) edition c b refl
 
 -- what a taker finds is what is read there, where each word's finding is

@@ -1,11 +1,12 @@
 // A rule: what it does, its five counts, its items.
 ghost use Rattle.std.specs.Prelude.{◌<◌, ◌^◌, IfOk};
-ghost use Rattle.bits.specs.Place.{At, Found};
+ghost use Rattle.bits.specs.Place.{At, bit_of, Found, FoundFrom};
 ghost use Rattle.rule_lists.specs.RuleAt.{head_at, counts_at, Few, rule_at};
 
 use crate::lists::fill;
 use crate::{Counts, Head};
 use bits::Reading;
+use bits::standing::{Place, Refuses};
 use refusals::{Cause, Refusal};
 use rules::Rule;
 
@@ -48,7 +49,7 @@ fn counts(image: &[u8], at: usize) -> Result<Reading<Counts>, Refusal>
     })
 }
 
-pub fn rule(image: &[u8], at: usize, edition: u32) -> Result<Reading<Rule>, Refusal>
+fn rule_from(image: &[u8], at: usize, edition: u32) -> Result<Reading<Rule>, Refusal>
     requires { at < 2 ^ 24 }
     ensures { Found result (rule_at image.now edition (At at)) at 1592 }
 {
@@ -82,4 +83,11 @@ pub fn rule(image: &[u8], at: usize, edition: u32) -> Result<Reading<Rule>, Refu
         spans,
     };
     Ok(Reading { item, end })
+}
+
+pub fn rule<P: Place>(image: &[u8], at: P, edition: u32) -> Result<Reading<Rule>, P::Refusal>
+    requires { bit_of (P.given at) < 2 ^ 24 }
+    ensures { FoundFrom P.Refusal.says P.Refusal.refuses result (P.given at) (rule_at image.now edition) 1592 }
+{
+    P::Refusal::state(rule_from(image, at.bit()?, edition))
 }

@@ -13,7 +13,7 @@ use borrow.Author.Tests.{eqb-true, eqb-false, leb-true, ltb-true, ltb-false}
 use Rattle.bits.specs.Bits.{ahead_of, part}
 use Rattle.bits.specs.Place.{Place, At, Read, within, at_most, number_at, signed_at}
 use Rattle.bits.specs.Signed.{signed_of}
-use Rattle.refusals.specs.declared.Cause.TheVariants.{NoMeaning, PastLimits}
+use Rattle.refusals.specs.declared.Cause.TheVariants.{PastEnd, NoMeaning, PastLimits}
 use Rattle.bits.proofs.AheadLaws.{Front, front, number-ahead, signed-ahead}
 use Rattle.bits.proofs.ReadLaws.{in-range}
 use Rattle.bits.proofs.SignLaws.{size-over, size-under}
@@ -104,9 +104,9 @@ module _ (s : List ℕ) (at w : ℕ) (x : Front s at w) where
       let k = both _ _ g in
       let l = both _ _ k.1 in
       rw q
-      (year-made s (At at) _ _ _ (number-ahead s at w x 0 14 50 (omega arith) (omega arith) at (omega arith) 1900 9999 PastLimits k.0)
-      (number-ahead s at w x 14 14 36 (omega arith) (omega arith) (at + 14) (omega arith) 1900 9999 PastLimits l.0)
-      (number-ahead s at w x 28 14 22 (omega arith) (omega arith) (at + 14 + 14) (omega arith) 1 9999 PastLimits l.1))
+      (year-made s (At at) _ _ _ (number-ahead s at w x 0 14 50 (omega arith) (omega arith) at (omega arith) 1900 9999 PastEnd PastLimits k.0)
+      (number-ahead s at w x 14 14 36 (omega arith) (omega arith) (at + 14) (omega arith) 1900 9999 PastEnd PastLimits l.0)
+      (number-ahead s at w x 28 14 22 (omega arith) (omega arith) (at + 14 + 14) (omega arith) 1 9999 PastEnd PastLimits l.1))
 
   pub week-ahead : week_good w ≡ true → record { item = week_of w; place = At (at + 18) } ≡ week_at s (At at)
   unfolding week_good week_of
@@ -115,16 +115,16 @@ module _ (s : List ℕ) (at w : ℕ) (x : Front s at w) where
       let k = both _ _ g in
       let l = both _ _ k.1 in
       rw q
-      (week-made s (At at) _ _ _ (number-ahead s at w x 0 6 58 (omega arith) (omega arith) at (omega arith) 1 53 PastLimits k.0)
-      (number-ahead s at w x 6 6 52 (omega arith) (omega arith) (at + 6) (omega arith) 1 53 PastLimits l.0)
-      (number-ahead s at w x 12 6 46 (omega arith) (omega arith) (at + 6 + 6) (omega arith) 1 53 PastLimits l.1))
+      (week-made s (At at) _ _ _ (number-ahead s at w x 0 6 58 (omega arith) (omega arith) at (omega arith) 1 53 PastEnd PastLimits k.0)
+      (number-ahead s at w x 6 6 52 (omega arith) (omega arith) (at + 6) (omega arith) 1 53 PastEnd PastLimits l.0)
+      (number-ahead s at w x 12 6 46 (omega arith) (omega arith) (at + 6 + 6) (omega arith) 1 53 PastEnd PastLimits l.1))
 
   -- a tag of one bit has a meaning whatever it is
   tag_one : record { item = part w 63 1; place = At (at + 1) } ≡ number_at s (At at) 1 0 1 NoMeaning
-  tag_one = number-ahead s at w x 0 1 63 (omega arith) (omega arith) at (omega arith) 0 1 NoMeaning (held w 63 1 1 (omega arith))
+  tag_one = number-ahead s at w x 0 1 63 (omega arith) (omega arith) at (omega arith) 0 1 PastEnd NoMeaning (held w 63 1 1 (omega arith))
 
   tag-two : part w 62 2 ≤ 2 → record { item = part w 62 2; place = At (at + 2) } ≡ number_at s (At at) 2 0 2 NoMeaning
-  tag-two h = number-ahead s at w x 0 2 62 (omega arith) (omega arith) at (omega arith) 0 2 NoMeaning (in-range 0 2 (part w 62 2) (omega arith) h)
+  tag-two h = number-ahead s at w x 0 2 62 (omega arith) (omega arith) at (omega arith) 0 2 PastEnd NoMeaning (in-range 0 2 (part w 62 2) (omega arith) h)
 
   weekdays-ahead : weekdays_good w ≡ true
       → record { item = record { form = range.Fixed (part w 60 3) (part w 57 3) (part w 52 5) (part w 47 5) (signed_of 1024 (part w 37 10)) }; place = At (at + 27) } ≡ fixed_weekdays s (At (at + 1))
@@ -134,10 +134,10 @@ module _ (s : List ℕ) (at w : ℕ) (x : Front s at w) where
       let k = both _ _ g in
       let l = both _ _ k.1 in
       rw q
-      (weekdays-put s (At (at + 1)) _ _ _ _ _ (number-ahead s at w x 1 3 60 (omega arith) (omega arith) (at + 1) (omega arith) 0 6 NoMeaning k.0)
-      (number-ahead s at w x 4 3 57 (omega arith) (omega arith) (at + 1 + 3) (omega arith) 0 6 NoMeaning l.0)
-      (number-ahead s at w x 7 5 52 (omega arith) (omega arith) (at + 1 + 3 + 3) (omega arith) 0 31 PastLimits (held w 52 5 31 (omega arith)))
-      (number-ahead s at w x 12 5 47 (omega arith) (omega arith) (at + 1 + 3 + 3 + 5) (omega arith) 0 31 PastLimits (held w 47 5 31 (omega arith)))
+      (weekdays-put s (At (at + 1)) _ _ _ _ _ (number-ahead s at w x 1 3 60 (omega arith) (omega arith) (at + 1) (omega arith) 0 6 PastEnd NoMeaning k.0)
+      (number-ahead s at w x 4 3 57 (omega arith) (omega arith) (at + 1 + 3) (omega arith) 0 6 PastEnd NoMeaning l.0)
+      (number-ahead s at w x 7 5 52 (omega arith) (omega arith) (at + 1 + 3 + 3) (omega arith) 0 31 PastEnd PastLimits (held w 52 5 31 (omega arith)))
+      (number-ahead s at w x 12 5 47 (omega arith) (omega arith) (at + 1 + 3 + 3 + 5) (omega arith) 0 31 PastEnd PastLimits (held w 47 5 31 (omega arith)))
       (signed-ahead s at w x 17 10 37 (omega arith) (omega arith) (at + 1 + 3 + 3 + 5 + 5) (omega arith) 366 (leb-true _ _ l.1)))
 
   holiday-ahead : holiday_good w ≡ true
@@ -147,7 +147,7 @@ module _ (s : List ℕ) (at w : ℕ) (x : Front s at w) where
       let q : at + 12 ≡ at + 1 + 1 + 10 = omega arith in
       rw q
       (holiday-put s (At (at + 1)) _ _
-      (number-ahead s at w x 1 1 62 (omega arith) (omega arith) (at + 1) (omega arith) 0 1 PastLimits (held w 62 1 1 (omega arith)))
+      (number-ahead s at w x 1 1 62 (omega arith) (omega arith) (at + 1) (omega arith) 0 1 PastEnd PastLimits (held w 62 1 1 (omega arith)))
       (signed-ahead s at w x 2 10 52 (omega arith) (omega arith) (at + 1 + 1) (omega arith) 366 (leb-true _ _ g)))
 
   pub weekday-ahead : (r : Taken WeekdayItem) → weekday_taken w ≡ Some r → record { item = r.item; place = At (at + r.width) } ≡ weekday_item_at s (At at)
@@ -170,7 +170,7 @@ module _ (s : List ℕ) (at w : ℕ) (x : Front s at w) where
       let q : at + 13 ≡ at + 1 + 12 = omega arith in
       rw q
       (fixed-time-made s (At (at + 1)) _
-      (number-ahead s at w x 1 12 51 (omega arith) (omega arith) (at + 1) (omega arith) 0 2880 PastLimits (in-range 0 2880 (part w 51 12) (omega arith) (leb-true _ _ g))))
+      (number-ahead s at w x 1 12 51 (omega arith) (omega arith) (at + 1) (omega arith) 0 2880 PastEnd PastLimits (in-range 0 2880 (part w 51 12) (omega arith) (leb-true _ _ g))))
 
   variable-ahead : at_most 1440 (signed_of 4096 (part w 49 12)) ≡ true
       → record { item = time.Variable (part w 61 2) (signed_of 4096 (part w 49 12)); place = At (at + 15) } ≡ variable_time s (At (at + 1))
@@ -178,7 +178,7 @@ module _ (s : List ℕ) (at w : ℕ) (x : Front s at w) where
       let q : at + 15 ≡ at + 1 + 2 + 12 = omega arith in
       rw q
       (variable-put s (At (at + 1)) _ _
-      (number-ahead s at w x 1 2 61 (omega arith) (omega arith) (at + 1) (omega arith) 0 3 PastLimits (held w 61 2 3 (omega arith)))
+      (number-ahead s at w x 1 2 61 (omega arith) (omega arith) (at + 1) (omega arith) 0 3 PastEnd PastLimits (held w 61 2 3 (omega arith)))
       (signed-ahead s at w x 3 12 49 (omega arith) (omega arith) (at + 1 + 2) (omega arith) 1440 (leb-true _ _ g)))
 
   pub time-ahead : (r : Taken Time) → time_taken w ≡ Some r → record { item = r.item; place = At (at + r.width) } ≡ time_at s (At at)
@@ -202,8 +202,8 @@ module _ (s : List ℕ) (at w : ℕ) (x : Front s at w) where
   unfolding flagged_good
   flagged-ahead g =
       flagged-made s (At (at + 2)) _ _
-      (number-ahead s at w x 2 1 61 (omega arith) (omega arith) (at + 2) (omega arith) 0 1 PastLimits (held w 61 1 1 (omega arith)))
-      (number-ahead s at w x 3 14 47 (omega arith) (omega arith) (at + 2 + 1) (omega arith) _ _ PastLimits g)
+      (number-ahead s at w x 2 1 61 (omega arith) (omega arith) (at + 2) (omega arith) 0 1 PastEnd PastLimits (held w 61 1 1 (omega arith)))
+      (number-ahead s at w x 3 14 47 (omega arith) (omega arith) (at + 2 + 1) (omega arith) _ _ PastEnd PastLimits g)
 
   fixed-ahead : fixed_good w ≡ true → record { item = date.Fixed (part w 47 14) (part w 43 4) (part w 38 5); place = At (at + 26) } ≡ fixed_date s (At (at + 2))
   unfolding fixed_good
@@ -213,8 +213,8 @@ module _ (s : List ℕ) (at w : ℕ) (x : Front s at w) where
       let l = both _ _ k.1 in
       rw q
       (fixed_made s (At (at + 2)) _ _ _ (flagged-ahead k.0)
-      (number-ahead s at w x 17 4 43 (omega arith) (omega arith) (at + 2 + 1 + 14) (omega arith) 1 12 PastLimits l.0)
-      (number-ahead s at w x 21 5 38 (omega arith) (omega arith) (at + 2 + 1 + 14 + 4) (omega arith) 1 31 PastLimits l.1))
+      (number-ahead s at w x 17 4 43 (omega arith) (omega arith) (at + 2 + 1 + 14) (omega arith) 1 12 PastEnd PastLimits l.0)
+      (number-ahead s at w x 21 5 38 (omega arith) (omega arith) (at + 2 + 1 + 14 + 4) (omega arith) 1 31 PastEnd PastLimits l.1))
 
   nth-ahead : nth_good w ≡ true
       → record { item = date.Weekday (part w 47 14) (part w 43 4) (part w 40 3) (signed_of 16 (part w 36 4)); place = At (at + 28) } ≡ nth_date s (At (at + 2))
@@ -225,8 +225,8 @@ module _ (s : List ℕ) (at w : ℕ) (x : Front s at w) where
       let l = both _ _ k.1 in
       rw q
       (nth-put s (At (at + 2)) _ _ _ _ (flagged-ahead k.0)
-      (number-ahead s at w x 17 4 43 (omega arith) (omega arith) (at + 2 + 1 + 14) (omega arith) 1 12 PastLimits l.0)
-      (number-ahead s at w x 21 3 40 (omega arith) (omega arith) (at + 2 + 1 + 14 + 4) (omega arith) 0 6 NoMeaning l.1)
+      (number-ahead s at w x 17 4 43 (omega arith) (omega arith) (at + 2 + 1 + 14) (omega arith) 1 12 PastEnd PastLimits l.0)
+      (number-ahead s at w x 21 3 40 (omega arith) (omega arith) (at + 2 + 1 + 14 + 4) (omega arith) 0 6 PastEnd NoMeaning l.1)
       (signed-ahead s at w x 24 4 36 (omega arith) (omega arith) (at + 2 + 1 + 14 + 4 + 3) (omega arith) 8 (nth_near _ (part-lt w 36 4))))
 
   easter-ahead : flagged_good w ≡ true → record { item = date.Easter (part w 47 14); place = At (at + 17) } ≡ easter_date s (At (at + 2))

@@ -1,13 +1,13 @@
 -- The flag times the limits gives the limits with and without a year.
 use mathlib.Core.Path.{refl}
-use Rattle.bits.specs.Place.{number_at, read_at}
+use Rattle.bits.specs.Place.{number_of, read_at}
 use Rattle.bits.proofs.ReadLaws.{read_is, refused-is, left, further}
 use Rattle.rule_items.specs.Dates.{flagged_year}
 use native.Mathlib.Omega.{arith}
 use Rattle.rule_items.proofs.dates.flagged_year.Goals as goal
 
 pub returns-in_err-flag-clause-found : goal.returns-in_err-flag-clause-found
-unfolding flagged_year number_at read_at
+unfolding flagged_year number_of read_at
 returns-in_err-flag-clause-found c = left _ _ _ _ _ c.from_residual.ensures.1 (rw (refused-is _ _ c.in_err-flag.ensures.is) refl)
 
 pub returns-clause-found : goal.returns-clause-found

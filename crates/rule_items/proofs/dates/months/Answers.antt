@@ -1,18 +1,18 @@
 -- Two months.
 use mathlib.Core.Path.{refl, ap}
 use native.Mathlib.Omega.{arith}
-use Rattle.bits.specs.Place.{outcome, number_at, read_at}
+use Rattle.bits.specs.Place.{outcome, number_of, read_at}
 use Rattle.bits.proofs.ReadLaws.{read_is, refused-is, left}
 use Rattle.rule_items.specs.Dates.{months_form}
 use Rattle.rule_items.proofs.ItemLaws.{months-made}
 use Rattle.rule_items.proofs.dates.months.Goals as goal
 
 pub returns-in_err-start : goal.returns-in_err-start
-unfolding months_form number_at read_at
+unfolding months_form number_of read_at
 returns-in_err-start c = left _ _ _ _ _ c.from_residual.ensures.1 (rw (refused-is _ _ c.in_err-start.ensures.is) refl)
 
 pub returns-in_err-end : goal.returns-in_err-end
-unfolding months_form number_at read_at
+unfolding months_form number_of read_at
 returns-in_err-end c = left _ _ _ _ _ c.from_residual-in_err-end.ensures.1 (rw (← read_is _ _ c.in_ok-start.ensures.is, refused-is _ _ c.in_err-end.ensures.is) refl)
 
 pub returns : goal.returns

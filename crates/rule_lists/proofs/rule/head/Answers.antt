@@ -1,18 +1,18 @@
 -- Operator, kind and comment in their order.
 use mathlib.Core.Path.{refl, ap}
 use native.Mathlib.Omega.{arith}
-use Rattle.bits.specs.Place.{outcome, number_at, read_at}
+use Rattle.bits.specs.Place.{outcome, number_of, read_at}
 use Rattle.bits.proofs.ReadLaws.{read_is, refused-is, left}
 use Rattle.rule_lists.specs.RuleAt.{head_at}
 use Rattle.rule_lists.proofs.ListLaws.{head-made}
 use Rattle.rule_lists.proofs.rule.head.Goals as goal
 
 pub returns-in_err-operator : goal.returns-in_err-operator
-unfolding head_at number_at read_at
+unfolding head_at number_of read_at
 returns-in_err-operator c = left _ _ _ _ _ c.from_residual.ensures.1 (rw (refused-is _ _ c.in_err-operator.ensures.is) refl)
 
 pub returns-in_err-kind : goal.returns-in_err-kind
-unfolding head_at number_at read_at
+unfolding head_at number_of read_at
 returns-in_err-kind c = left _ _ _ _ _ c.from_residual-in_err-kind.ensures.1 (rw (← read_is _ _ c.in_ok-operator.ensures.is, refused-is _ _ c.in_err-kind.ensures.is) refl)
 
 pub returns-in_err-comment : goal.returns-in_err-comment
