@@ -106,18 +106,18 @@ pub number-is : {C : Type 0} (s : List ℕ) (at w lo hi : ℕ) (past cause : C) 
 unfolding number_of
 number-is s at w lo hi past cause v e h = read_right 0 (within lo hi) (λ (v : ℕ). v) past cause w s at v e h
 
--- what the three cases are to one who was asked to read at a bit, in words of his own
-module _ {C R : Type 0} (past : C) (refuse : C → ℕ → R) (s : List ℕ) (given : Result ℕ R) (at : ℕ) (g : given ≡ Ok at) (w lo hi : ℕ) (cause : C) where
-  pub number_past : field_at s at w ≡ None → NumberOf past refuse (Err (refuse past at)) s given w lo hi cause
+-- The three cases as answers, in the words of who asks.
+module _ {C R : Type 0} (past : C) (refuse : C → ℕ → R) (s : List ℕ) (at w lo hi : ℕ) (cause : C) where
+  pub number_past : field_at s at w ≡ None → NumberOf past refuse (Err (refuse past at)) s (Ok at) w lo hi cause
   unfolding number_of
-  number_past e = rw g (record { is = ap (answered refuse) (read_past 0 (within lo hi) (λ (v : ℕ). v) past cause w s at e); near = tt; top = tt })
+  number_past e = record { is = ap (answered refuse) (read_past 0 (within lo hi) (λ (v : ℕ). v) past cause w s at e); near = tt; top = tt }
 
-  pub number-wrong : (v : ℕ) → field_at s at w ≡ Some v → within lo hi v ≡ false → NumberOf past refuse (Err (refuse cause at)) s given w lo hi cause
+  pub number-wrong : (v : ℕ) → field_at s at w ≡ Some v → within lo hi v ≡ false → NumberOf past refuse (Err (refuse cause at)) s (Ok at) w lo hi cause
   unfolding number_of
-  number-wrong v e f = rw g (record { is = ap (answered refuse) (read-wrong 0 (within lo hi) (λ (v : ℕ). v) past cause w s at v e f); near = tt; top = tt })
+  number-wrong v e f = record { is = ap (answered refuse) (read-wrong 0 (within lo hi) (λ (v : ℕ). v) past cause w s at v e f); near = tt; top = tt }
 
-  pub number-right : (v : ℕ) → field_at s at w ≡ Some v → within lo hi v ≡ true → NumberOf past refuse (Ok (record { item = v; end = at + w })) s given w lo hi cause
-  number-right v e h = rw g (record { is = ap (answered refuse) (number-is s at w lo hi past cause v e h); near = omega arith; top = (within_in lo hi v h).1 })
+  pub number-right : (v : ℕ) → field_at s at w ≡ Some v → within lo hi v ≡ true → NumberOf past refuse (Ok (record { item = v; end = at + w })) s (Ok at) w lo hi cause
+  number-right v e h = record { is = ap (answered refuse) (number-is s at w lo hi past cause v e h); near = omega arith; top = (within_in lo hi v h).1 }
 
 -- the answer of a number in other words is that of the number in those words
 pub stated_number : {C R : Type 0} (says : Cause → C) (refuse : C → ℕ → R) (s : List ℕ) (at w lo hi : ℕ) (cause : Cause)

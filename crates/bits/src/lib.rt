@@ -1,7 +1,7 @@
 // Bit fields of an image, most significant bit first, read by whole bytes; and what a reading answers: what it read, or its first refusal.
 #![tactic(auto)]
 
-ghost use Rattle.std.specs.Prelude.{◌≡◌, ◌+◌, ◌-◌, ◌*◌, ◌/◌, ◌%◌, ◌≤◌, ◌<◌, ◌^◌, length, nat_abs};
+ghost use Rattle.std.specs.Prelude.{◌≡◌, ◌+◌, ◌-◌, ◌*◌, ◌/◌, ◌%◌, ◌≤◌, ◌<◌, ◌^◌, length, nat_abs, Ok};
 ghost use Rattle.refusals.specs.declared.Cause.TheVariants.{PastEnd};
 ghost use Rattle.bits.specs.Bits.{bits, field_at, ahead_of};
 ghost use Rattle.bits.specs.Place.{At, within, signed_at, bit_of, Found, FoundFrom, NumberOf};
@@ -107,7 +107,31 @@ pub fn read(image: &[u8], at: usize, width: usize) -> Option<u32>
     last_field(image, at, width)
 }
 
-// A number of width bits, from low to high; another is refused for the cause given.
+// A number of width bits at a bit, from low to high; another is refused for the cause given.
+fn number_from<R: Refuses>(
+    image: &[u8],
+    at: usize,
+    width: usize,
+    low: u32,
+    high: u32,
+    cause: R::Cause,
+) -> Result<Reading<u32>, R>
+    requires { (1 ≤ width) × (width ≤ 32) × (at < 2 ^ 32) }
+    ensures { NumberOf (R.says PastEnd) R.refuses result image.now (Ok at) width low high cause }
+{
+    let Some(item) = read(image, at, width) else {
+        return Err(R::refuse(R::say(Cause::PastEnd), at));
+    };
+    if !between(u64::from(item), u64::from(low), u64::from(high)) {
+        return Err(R::refuse(cause, at));
+    }
+    Ok(Reading {
+        item,
+        end: at + width,
+    })
+}
+
+// The same at any place; one that was refused before stays.
 pub fn number<P: Place>(
     image: &[u8],
     at: P,
@@ -119,17 +143,7 @@ pub fn number<P: Place>(
     requires { (1 ≤ width) × (width ≤ 32) × (bit_of (P.given at) < 2 ^ 32) }
     ensures { NumberOf (P.Refusal.says PastEnd) P.Refusal.refuses result image.now (P.given at) width low high cause }
 {
-    let at = at.bit()?;
-    let Some(item) = read(image, at, width) else {
-        return Err(P::Refusal::refuse(P::Refusal::say(Cause::PastEnd), at));
-    };
-    if !between(u64::from(item), u64::from(low), u64::from(high)) {
-        return Err(P::Refusal::refuse(cause, at));
-    }
-    Ok(Reading {
-        item,
-        end: at + width,
-    })
+    number_from::<P::Refusal>(image, at.bit()?, width, low, high, cause)
 }
 
 // One sign extension for every width: full is 2 to the width.
@@ -181,7 +195,7 @@ fn signed_from(
     })
 }
 
-// A signed number, at most limit from 0.
+// The same at any place; one that was refused before stays.
 pub fn signed_number<P: Place>(
     image: &[u8],
     at: P,

@@ -53,7 +53,7 @@ impl Refuses for Refusal {
     }
 }
 
-// A refusal by any number; that of a cause is the rules'.
+// A refusal by any number; a cause has the rules' number.
 #[derive(Clone, Copy)]
 pub struct Numbered {
     pub number: u8,

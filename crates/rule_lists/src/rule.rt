@@ -85,6 +85,7 @@ fn rule_from(image: &[u8], at: usize, edition: u32) -> Result<Reading<Rule>, Ref
     Ok(Reading { item, end })
 }
 
+// A rule at any place; one that was refused before stays.
 pub fn rule<P: Place>(image: &[u8], at: P, edition: u32) -> Result<Reading<Rule>, P::Refusal>
     requires { bit_of (P.given at) < 2 ^ 24 }
     ensures { FoundFrom P.Refusal.says P.Refusal.refuses result (P.given at) (rule_at image.now edition) 1592 }
